@@ -1,0 +1,4 @@
+pub mod Commands
+pub mod Reading
+pub mod Page
+pub mod Writing
