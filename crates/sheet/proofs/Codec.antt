@@ -67,18 +67,18 @@ all-clean (b ∷ text) h =
 abbrev Begun : ℕ → List ℕ → Reading → Type 0
 Begun p bs end = length bs ≡ 0
 Begun p bs (read m q) = Fit m × (q ≡ p + length (bytes m)) × (length (bytes m) ≤ length bs) × (take (length (bytes m)) bs ≡ bytes m)
-Begun p bs (refused n vs) = Unit {0}
+Begun p bs (refused n vs) = 0 < length bs
 
 at-whole : (p w : ℕ) (bs : List ℕ) (r : Reading) → w ≤ length bs → whole p w bs r ≡ r
 at-whole p w bs r h = cond-false _ _ _ (le-ltb (length bs) w h)
 
-whole-or-cut : (p w : ℕ) (front bs : List ℕ) (r : Reading) → (w ≤ length bs → Begun p front r) → Begun p front (whole p w bs r)
-whole-or-cut p w front bs r h =
-    cond-both (ltb (length bs) w) (refused 14 (p ∷ [])) r (Begun p front) (λ _. tt) (λ e. h (ltb-false (length bs) w e))
+whole-or-cut : (p w b : ℕ) (bs : List ℕ) (r : Reading) → (w ≤ length bs → Begun p (b ∷ bs) r) → Begun p (b ∷ bs) (whole p w bs r)
+whole-or-cut p w b bs r h =
+    cond-both (ltb (length bs) w) (refused 14 (p ∷ [])) r (Begun p (b ∷ bs)) (λ _. omega arith) (λ e. h (ltb-false (length bs) w e))
 
 module _ (p : ℕ) where
   begun-post : (bs : List ℕ) → All (λ b. b < 256) bs → Begun p (0x50 ∷ bs) (postAt p bs)
-  begun-post bs bounded = whole-or-cut p 6 (0x50 ∷ bs) bs _ (six bs bounded)
+  begun-post bs bounded = whole-or-cut p 6 0x50 bs _ (six bs bounded)
     where
       six : (bs : List ℕ) → All (λ b. b < 256) bs → 6 ≤ length bs → Begun p (0x50 ∷ bs) (read (post (getD bs 0 0) (getD bs 1 0) (value4 (drop 2 bs))) (p + 7))
       six (f ∷ t ∷ a ∷ b ∷ c ∷ d ∷ bs) (hf, (ht, (ha, (hb, (hc, (hd, rest)))))) long =
@@ -91,7 +91,7 @@ module _ (p : ℕ) where
       six (f ∷ t ∷ a ∷ b ∷ c ∷ []) bounded long = absurd (omega arith)
 
   begun-amend : (bs : List ℕ) → All (λ b. b < 256) bs → Begun p (0x41 ∷ bs) (amendAt p bs)
-  begun-amend bs bounded = whole-or-cut p 6 (0x41 ∷ bs) bs _ (six bs bounded)
+  begun-amend bs bounded = whole-or-cut p 6 0x41 bs _ (six bs bounded)
     where
       six : (bs : List ℕ) → All (λ b. b < 256) bs → 6 ≤ length bs → Begun p (0x41 ∷ bs) (read (amend (value2 bs) (value4 (drop 2 bs))) (p + 7))
       six (h ∷ l ∷ a ∷ b ∷ c ∷ d ∷ bs) (hh, (hl, (ha, (hb, (hc, (hd, rest)))))) long = (
@@ -108,7 +108,7 @@ module _ (p : ℕ) where
       six (f ∷ t ∷ a ∷ b ∷ c ∷ []) bounded long = absurd (omega arith)
 
   begun-strike : (bs : List ℕ) → All (λ b. b < 256) bs → Begun p (0x53 ∷ bs) (strikeAt p bs)
-  begun-strike bs bounded = whole-or-cut p 2 (0x53 ∷ bs) bs _ (two bs bounded)
+  begun-strike bs bounded = whole-or-cut p 2 0x53 bs _ (two bs bounded)
     where
       two : (bs : List ℕ) → All (λ b. b < 256) bs → 2 ≤ length bs → Begun p (0x53 ∷ bs) (read (strike (value2 bs)) (p + 3))
       two (h ∷ l ∷ bs) (hh, (hl, rest)) long = (omega arith, refl, omega arith, ap (λ z. 0x53 ∷ z) (sym (big2-value2 h l hh hl)))
@@ -117,9 +117,9 @@ module _ (p : ℕ) where
 
   begun-note : (bs : List ℕ) → Begun p (0x4E ∷ bs) (noteAt p bs)
   begun-note bs =
-      whole-or-cut p noteLength (0x4E ∷ bs) bs _ (λ long.
+      whole-or-cut p noteLength 0x4E bs _ (λ long.
       let n : length (take noteLength bs) ≡ noteLength = length-take-le noteLength bs long in
-      cond-both (ltb (clean (take noteLength bs)) noteLength) _ _ (Begun p (0x4E ∷ bs)) (λ _. tt)
+      cond-both (ltb (clean (take noteLength bs)) noteLength) _ _ (Begun p (0x4E ∷ bs)) (λ _. omega arith)
       (λ e. ((n, all-clean (take noteLength bs) (omega (arith, n, ltb-false (clean (take noteLength bs)) noteLength e))), omega (arith, n), omega (arith, n), ap (λ k. 0x4E ∷ take k bs) n)))
 
   begun : (bs : List ℕ) → All (λ b. b < 256) bs → Begun p bs (command p bs)
@@ -130,7 +130,7 @@ module _ (p : ℕ) where
       (λ _. cond-both (eqb byte 0x53) _ _ (Begun p (byte ∷ bs)) (at-byte 0x53 (strikeAt p bs) (begun-strike bs (bounded .1)))
       (λ _. cond-both (eqb byte 0x43) _ _ (Begun p (byte ∷ bs)) (at-byte 0x43 (read clear (p + 1)) (tt, refl, omega arith, refl))
       (λ _. cond-both (eqb byte 0x4E) _ _ (Begun p (byte ∷ bs)) (at-byte 0x4E (noteAt p bs) (begun-note bs))
-      (λ _. tt)))))
+      (λ _. omega arith)))))
     where
       at-byte : (n : ℕ) (r : Reading) → Begun p (n ∷ bs) r → eqb byte n ≡ true → Begun p (byte ∷ bs) r
       at-byte n r h e = subst (λ b. Begun p (b ∷ bs) r) (sym (eqb-true byte n e)) h
@@ -138,15 +138,17 @@ module _ (p : ℕ) where
 -- what `reading` gives stands in the sheet
 pub spelled : (s : List ℕ) (p : ℕ) → All (λ b. b < 256) s → Spelled s p (reading s p)
 spelled s p bounded =
-    cond-both (ltb longestSheet (length s) || ltb (length s) p) (refused 12 []) (command p (drop p s)) (Spelled s p) (λ _. tt)
-    (λ e. from-begun (command p (drop p s)) (ltb-false (length s) p (or-parts (ltb longestSheet (length s)) (ltb (length s) p) e .1)) (begun p (drop p s) (all-drop _ p s bounded)))
+    cond-both (ltb longestSheet (length s) || ltb (length s) p) (refused 12 []) (command p (drop p s)) (Spelled s p) (λ _ other. absurd (other refl))
+    (λ e.
+    let parts = or-parts (ltb longestSheet (length s)) (ltb (length s) p) e in
+    from-begun (command p (drop p s)) (ltb-false longestSheet (length s) (parts .0)) (ltb-false (length s) p (parts .1)) (begun p (drop p s) (all-drop _ p s bounded)))
   where
-    from-begun : (r : Reading) → p ≤ length s → Begun p (drop p s) r → Spelled s p r
-    from-begun end within h = omega (arith, length-drop p s, h)
-    from-begun (read m q) within (fit, after, long, same) =
+    from-begun : (r : Reading) → length s ≤ longestSheet → p ≤ length s → Begun p (drop p s) r → Spelled s p r
+    from-begun end short within h = omega (arith, length-drop p s, h)
+    from-begun (read m q) short within (fit, after, long, same) =
         let rest = length-drop p s in
         (fit, after, omega (arith, rest, after, long), ap (λ k. take k (drop p s)) (omega (arith, after)) ∙ same)
-    from-begun (refused n vs) within h = tt
+    from-begun (refused n vs) short within h = λ other. (omega (arith, length-drop p s, h), short)
 
 -- a command's bytes are read as that command
 back : (p : ℕ) (m : Meaning) → Fit m → (rest : List ℕ) → command p (bytes m ++ rest) ≡ read m (p + length (bytes m))

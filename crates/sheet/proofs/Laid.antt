@@ -4,7 +4,7 @@ use mathlib.Core.Path.{_≡_, refl, sym, ap, _∙_}
 use Prim.Native.Nat.{ℕ, _+_, _≤_}
 use native.Mathlib.Omega.{arith}
 use lib.ListN.{length, take, drop}
-use Rattle.std.proofs.shelf.Lists.{append-assoc, length-append, length-take-le, take-at, drop-at, drop-drop}
+use Rattle.std.proofs.shelf.Lists.{append-assoc, length-append, length-take-le, take-at, drop-at, drop-drop, take-append-drop}
 use Rattle.sheet.specs.Page.{laid, over, Put}
 
 module _ (page : List ℕ) (at : ℕ) (a b : List ℕ) (fits : at + length a ≤ length page) where
@@ -38,3 +38,9 @@ put-then page at a b p q r s fits one two = record {
 
 pub over-from-put : (page bs p : List ℕ) (r : ℕ) → Put page 0 bs p r → (p ≡ over page bs) × (r ≡ length bs)
 over-from-put page bs p r put = (put .page ∙ ap (λ n. bs ++ drop n page) (omega arith), omega (arith, put .place))
+
+pub put-none : (page : List ℕ) (at : ℕ) → Put page at [] page at
+put-none page at = record {
+  page = sym (take-append-drop at page) ∙ ap (λ n. take at page ++ drop n page) (omega arith);
+  place = omega arith;
+}

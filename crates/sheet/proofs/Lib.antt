@@ -1,2 +1,5 @@
 pub mod Codec
 pub mod Laid
+pub mod Refusals
+pub mod Printing
+pub mod Runs

@@ -9,7 +9,7 @@
 use mathlib.Core.Bool.{Bool, cond, _||_}
 use mathlib.Core.List.{List, [], _∷_, _++_}
 use mathlib.Core.Path.{_≡_}
-use Prim.Native.Nat.{ℕ, _+_, _-_, _*_, _≤_}
+use Prim.Native.Nat.{ℕ, _+_, _-_, _*_, _<_, _≤_}
 use lib.Dec.{eqb, ltb}
 use lib.ListN.{length, getD, take, drop}
 use Rattle.std.specs.declared.option.Option.{Option}
@@ -96,11 +96,11 @@ seen (Ok None) = end
 seen (Ok (Some f)) = read (meaning (f .command)) (f .after)
 seen (Err e) = refused (number e) (carries e)
 
--- the bytes from the place to the place after are those of the command read, and its operands fit
+-- the bytes from the place to the place after are those of the command read, and its operands fit; a refusal but 12 comes within a sheet
 abbrev pub Spelled : List ℕ → ℕ → Reading → Type 0
 Spelled s p end = p ≡ length s
 Spelled s p (read m q) = Fit m × (q ≡ p + length (bytes m)) × (q ≤ length s) × (take (q - p) (drop p s) ≡ bytes m)
-Spelled s p (refused n vs) = Unit {0}
+Spelled s p (refused n vs) = (n ≡ 12 → ⊥) → (p < length s) × (length s ≤ longestSheet)
 
 -- a command's bytes, wherever they stand in a sheet, are read as that command
 abbrev pub Reads-back : Meaning → Type 0

@@ -1,4 +1,6 @@
 // A sheet's commands, and why reading, writing or stepping is refused.
+ghost use mathlib.Core.Path.{_≡_};
+ghost use Rattle.sheet.specs.Reading.{number};
 
 // the bytes that commands begin with
 pub const POST: u8 = 0x50;
@@ -40,4 +42,19 @@ pub enum Fault {
     NoteByte(usize),
     // the page or the buffer is too short
     TooShort,
+}
+
+impl Fault {
+    // The refusal's number.
+    pub fn number(&self) -> u8
+        ensures { λ r. ⌜ r ≡ number (now (self .entry)) ⌝ }
+    {
+        match self {
+            Fault::OutOfRange => 12,
+            Fault::UnknownCommand(_) => 13,
+            Fault::CutOff(_) => 14,
+            Fault::NoteByte(_) => 15,
+            Fault::TooShort => 17,
+        }
+    }
 }

@@ -1,0 +1,113 @@
+// The lines of a statement, written at the start of a page.
+ghost use mathlib.Core.List.{_++_};
+ghost use Prim.Native.Nat.{_+_, _≤_};
+ghost use lib.Chars.{codes};
+ghost use lib.ListN.{length};
+ghost use Rattle.book.specs.Faults.{number, carries};
+ghost use Rattle.book.specs.Outcome.{book, sheet};
+ghost use Rattle.sheet.specs.Page.{Put};
+ghost use Rattle.sheet.specs.Reading.{number as sheet-number, carries as sheet-carries};
+ghost use Rattle.sheet.specs.Statements.{shortestPage, textLine, detail, refusalHead, refusalText};
+ghost use Rattle.std.specs.Written.{decimal};
+use crate::command::Fault;
+use crate::page::put;
+use crate::page::put_decimal;
+use book::Fault as BookFault;
+
+// A line of fixed words.
+pub fn say(page: &mut [u8], words: &[u8]) -> usize
+    requires room { ⌜ shortestPage ≤ length (now page) ⌝ }
+    requires short { ⌜ length (now words) ≤ 16 ⌝ }
+    ensures { λ r. ⌜ Put (now (page .entry)) 0 (textLine (now (words .entry))) (now (page .exit)) r ⌝ }
+{
+    let end = put(page, 0, words);
+    put(page, end, b"\n")
+}
+
+// A line of fixed words and the text of a note.
+pub fn say_text(page: &mut [u8], words: &[u8], text: &[u8]) -> usize
+    requires room { ⌜ shortestPage ≤ length (now page) ⌝ }
+    requires short { ⌜ length (now words) ≤ 16 ⌝ ∗ ⌜ length (now text) ≤ 16 ⌝ }
+    ensures { λ r. ⌜ Put (now (page .entry)) 0 (textLine (now (words .entry) ++ now (text .entry))) (now (page .exit)) r ⌝ }
+{
+    let after = put(page, 0, words);
+    let end = put(page, after, text);
+    put(page, end, b"\n")
+}
+
+// A line of fixed words and a number.
+pub fn say_number(page: &mut [u8], words: &[u8], n: usize) -> usize
+    requires room { ⌜ shortestPage ≤ length (now page) ⌝ }
+    requires short { ⌜ length (now words) ≤ 16 ⌝ }
+    ensures { λ r. ⌜ Put (now (page .entry)) 0 (textLine (now (words .entry) ++ decimal n)) (now (page .exit)) r ⌝ }
+{
+    let after = put(page, 0, words);
+    let end = put_decimal(page, after, n);
+    put(page, end, b"\n")
+}
+
+// A refused call of the book, by the place of its command.
+pub fn say_book_refusal(page: &mut [u8], fault: &BookFault, place: usize) -> usize
+    requires { ⌜ shortestPage ≤ length (now page) ⌝ }
+    ensures { λ r. ⌜ Put (now (page .entry)) 0 (textLine (refusalText book (number (now (fault .entry))) (carries (now (fault .entry))) place)) (now (page .exit)) r ⌝ }
+{
+    let head = put_head(page, b"book", fault.number(), place);
+    let end = put_detail(page, head, fault);
+    put(page, end, b"\n")
+}
+
+// A refused reading of the sheet, by the place of its command.
+pub fn say_sheet_refusal(page: &mut [u8], fault: &Fault, place: usize) -> usize
+    requires { ⌜ shortestPage ≤ length (now page) ⌝ }
+    ensures { λ r. ⌜ Put (now (page .entry)) 0 (textLine (refusalText sheet (sheet-number (now (fault .entry))) (sheet-carries (now (fault .entry))) place)) (now (page .exit)) r ⌝ }
+{
+    let end = put_head(page, b"sheet", fault.number(), place);
+    put(page, end, b"\n")
+}
+
+fn put_head(page: &mut [u8], layer: &[u8], number: u8, place: usize) -> usize
+    requires room { ⌜ shortestPage ≤ length (now page) ⌝ }
+    requires short { ⌜ length (now layer) ≤ 5 ⌝ }
+    ensures put { λ r. ⌜ Put (now (page .entry)) 0 (refusalHead (now (layer .entry)) number place) (now (page .exit)) r ⌝ }
+    ensures short { λ r. ⌜ r ≤ 60 ⌝ }
+{
+    let word = put(page, 0, b"refused ");
+    let name = put(page, word, layer);
+    let space = put(page, name, b" ");
+    put_number_and_place(page, space, number, place)
+}
+
+fn put_number_and_place(page: &mut [u8], at: usize, number: u8, place: usize) -> usize
+    requires { ⌜ at + 44 ≤ length (now page) ⌝ }
+    ensures put { λ r. ⌜ Put (now (page .entry)) at (decimal number ++ (codes " at " ++ decimal place)) (now (page .exit)) r ⌝ }
+    ensures short { λ r. ⌜ r ≤ at + 44 ⌝ }
+{
+    let after = put_decimal(page, at, number as usize);
+    let next = put(page, after, b" at ");
+    put_decimal(page, next, place)
+}
+
+// The account that differs and both its totals, where that is the fault.
+fn put_detail(page: &mut [u8], at: usize, fault: &BookFault) -> usize
+    requires { ⌜ at + 80 ≤ length (now page) ⌝ }
+    ensures put { λ r. ⌜ Put (now (page .entry)) at (detail (number (now (fault .entry))) (carries (now (fault .entry)))) (now (page .exit)) r ⌝ }
+    ensures short { λ r. ⌜ r ≤ at + 80 ⌝ }
+{
+    match *fault {
+        BookFault::Unbalanced(account, entering, leaving) => put_totals(page, at, account, entering, leaving),
+        _ => at,
+    }
+}
+
+fn put_totals(page: &mut [u8], at: usize, account: u8, entering: u32, leaving: u32) -> usize
+    requires { ⌜ at + 80 ≤ length (now page) ⌝ }
+    ensures put { λ r. ⌜ Put (now (page .entry)) at (codes " account " ++ (decimal account ++ (codes " in " ++ (decimal entering ++ (codes " out " ++ decimal leaving))))) (now (page .exit)) r ⌝ }
+    ensures short { λ r. ⌜ r ≤ at + 80 ⌝ }
+{
+    let a = put(page, at, b" account ");
+    let b = put_decimal(page, a, account as usize);
+    let c = put(page, b, b" in ");
+    let d = put_decimal(page, c, entering as usize);
+    let e = put(page, d, b" out ");
+    put_decimal(page, e, leaving as usize)
+}
