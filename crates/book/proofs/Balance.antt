@@ -1,5 +1,5 @@
 -- From equal totals by account to balance, and what every book has. Assumes nothing.
-use mathlib.Core.Bool.{Bool, true, false, cond, _||_}
+use mathlib.Core.Bool.{Bool, true, false, not, cond, _&&_, _||_}
 use mathlib.Core.List.{List, [], _∷_, map}
 use mathlib.Core.Logic.{⊎-elim, inl, inr}
 use mathlib.Core.Path.{_≡_, refl, sym, ap, subst, _∙_}
@@ -8,14 +8,15 @@ use native.Mathlib.Omega.{arith}
 use lib.Dec.{eqb}
 use lib.ListN.{length, take, getD}
 use Rattle.std.proofs.shelf.Elements.{all-from-getD}
-use Rattle.std.proofs.shelf.Tests.{cases-bool, cases-lt, cond-true, cond-false, or-cases, or-left, or-right, eqb-true, both-ways}
+use Rattle.std.proofs.shelf.Tests.{cases-bool, cases-lt, cond-true, cond-false, or-cases, or-left, or-right, and-from, and-parts, eqb-true, eqb-false, ne-eqb, not-true, not-from-false, both-ways}
 use Rattle.std.specs.shelf.Lists.{All}
-use Rattle.book.specs.Faults.{refusal}
+use Rattle.book.specs.Faults.{refusal, checked}
 use Rattle.book.specs.Limits.{mostLines, accounts, highestAccount, greatestAmount}
 use Rattle.book.specs.Lines.{lines}
+use Rattle.book.specs.Outcome.{Outcome, book, refuses, stopped}
 use Rattle.book.specs.Records.{lineOf, blank}
 use Rattle.book.specs.Tally.{Tally, Sound, WellFormed}
-use Rattle.book.specs.Totals.{total, any, figure, touches, sideTotal, inTotal, outTotal, amountOf, Compared, Balances, Agree}
+use Rattle.book.specs.Totals.{total, any, figure, touches, sideTotal, inTotal, outTotal, amountOf, enters, leaves, Compared, Differs, differs, Balances, balanceStops, Agree}
 use Rattle.book.specs.declared.entries.Fault.{Fault}
 use Rattle.book.specs.declared.entries.Fault.the-variants.{Unbalanced}
 use Rattle.book.specs.declared.entries.Line.{Line}
@@ -27,6 +28,7 @@ use Rattle.book.specs.declared.table.Side.the-variants.{In, Out}
 use Rattle.std.specs.declared.result.Result.{Result}
 use Rattle.std.specs.declared.result.Result.the-variants.{Ok, Err}
 use Rattle.book.proofs.Records.{length-lines, at-lines}
+use Rattle.book.proofs.Search.{lowestOf-first, someOf-true, someOf-false}
 
 -- a live line that touches an account has an amount, and the account is one there is
 touch : (s : Side) (a : ℕ) (l : Line) → Sound l → touches s a l ≡ true → (0 < amountOf l) × (a < accounts)
@@ -72,6 +74,29 @@ module _ (t : Tally) (sound : All Sound t) (ins outs : List ℕ) (in-is : (a : �
         (λ b lower d. d .2 (agrees b (omega arith) (below b lower) (d .0) (d .1))),
         ap refusal (is ∙ (ap (λ z. Unbalanced a z (getD outs a 0)) ie ∙ ap (λ z. Unbalanced a (inTotal t a) z) oe)),
       )
+
+-- the computed test tells whether an account differs
+differs-true : (t : Tally) (a : ℕ) → Differs t a → differs t a ≡ true
+differs-true t a (entered, left, apart) =
+    and-from _ _ (and-from _ _ entered left) (not-from-false (eqb (inTotal t a) (outTotal t a)) (ne-eqb (inTotal t a) (outTotal t a) apart))
+
+differs-false : (t : Tally) (a : ℕ) → (Differs t a → ⊥) → differs t a ≡ false
+differs-false t a same =
+    ⊎-elim
+    (λ d.
+    let outer = and-parts (any (enters a) t && any (leaves a) t) (not (eqb (inTotal t a) (outTotal t a))) d in
+    let inner = and-parts (any (enters a) t) (any (leaves a) t) (outer .0) in
+    absurd (same (inner .0, inner .1, eqb-false (inTotal t a) (outTotal t a) (not-true (eqb (inTotal t a) (outTotal t a)) (outer .1)))))
+    (λ e. e)
+    (cases-bool (differs t a))
+
+pub balances-stop : (t : Tally) → All Sound t → (r : Result Unit Fault) → Balances t r → (o : Outcome) → checked r o ≡ stopped (balanceStops t) o
+balances-stop t sound (Ok x) balanced o =
+    sym (cond-false _ _ _ (someOf-false (differs t) 0 accounts (λ a ge lt. differs-false t a (λ d. d .2 (balanced a (d .0) (d .1))))))
+balances-stop t sound (Err e) (a, d, lower, is) o =
+    let within = touched In a t sound (d .0) .1 in
+    let first = lowestOf-first (differs t) 0 0 accounts a (omega arith) (omega arith) (differs-true t a d) (λ b ge lt. differs-false t b (lower b lt)) in
+    is ∙ (ap (λ z. refuses book 7 (z ∷ inTotal t z ∷ outTotal t z ∷ [])) (sym first) ∙ sym (cond-true _ _ _ (someOf-true (differs t) 0 accounts a (omega arith) (omega arith) (differs-true t a d))))
 
 -- every book is well-formed
 sound-record : (r : Record) → r .from < r .to → r .to ≤ highestAccount → 0 < r .amount → r .amount ≤ greatestAmount → Sound (lineOf r)

@@ -1,4 +1,5 @@
 pub mod Records
 pub mod Totals
+pub mod Search
 pub mod Balance
 pub mod Runs

@@ -1,5 +1,6 @@
 pub mod Limits
 pub mod Outcome
+pub mod Search
 pub mod Tally
 pub mod Faults
 pub mod Totals

@@ -5,8 +5,9 @@
 --   Enters, Leaves   some live line enters it, or leaves it
 --   figure, sideTotal  what a line adds to one of the two totals of an account, and that total
 --   Balanced         both totals agree at every account with live lines on both sides
+--   balanceStops     the stop of every question about a book that is not balanced
 --   Differs          an account with live lines on both sides whose totals do not agree
-use mathlib.Core.Bool.{Bool, false, true, cond, _||_}
+use mathlib.Core.Bool.{Bool, false, true, not, cond, _&&_, _||_}
 use mathlib.Core.List.{List, [], _∷_}
 use mathlib.Core.Logic.{_≢_}
 use mathlib.Core.Path.{_≡_}
@@ -15,7 +16,8 @@ use lib.Dec.{eqb}
 use lib.ListN.{getD}
 use Rattle.book.specs.Limits.{accounts}
 use Rattle.book.specs.Faults.{refusal}
-use Rattle.book.specs.Outcome.{book, refuses}
+use Rattle.book.specs.Outcome.{book, refuses, Stop, stop}
+use Rattle.book.specs.Search.{lowestOf, someOf}
 use Rattle.book.specs.Tally.{Tally}
 use Rattle.book.specs.declared.entries.Fault.{Fault}
 use Rattle.book.specs.declared.entries.Fault.the-variants.{Unbalanced}
@@ -82,6 +84,17 @@ Balances t (Err e) =
     × Differs t a
     × ((b : ℕ) → b < a → Differs t b → ⊥)
     × (refusal e ≡ refuses book 7 (a ∷ inTotal t a ∷ outTotal t a ∷ []))
+
+-- the row of the table of stops for every question: the same, computed
+abbrev pub differs : Tally → ℕ → Bool
+differs t a = any (enters a) t && any (leaves a) t && not (eqb (inTotal t a) (outTotal t a))
+
+abbrev pub lowestDiffering : Tally → ℕ
+lowestDiffering t = lowestOf (differs t) 0 0 accounts
+
+abbrev pub balanceStops : Tally → List Stop
+balanceStops t =
+    stop (someOf (differs t) 0 accounts) book 7 (lowestDiffering t ∷ inTotal t (lowestDiffering t) ∷ outTotal t (lowestDiffering t) ∷ []) ∷ []
 
 -- the same of two lists of totals, by account: a total is 0 where no live line stands on that side
 abbrev pub Agree : List ℕ → List ℕ → ℕ → Type 0

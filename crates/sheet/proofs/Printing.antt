@@ -18,19 +18,21 @@ use Rattle.sheet.proofs.Laid.{over-from-put}
 
 pub printed : (a b : State) (before after l : List ℕ) (n : ℕ) → shortestPage ≤ length before → length after ≡ length before → Put before 0 l after n → Prints a l b → (shortestPage ≤ length before) × (n ≤ length before) × ((k : List ℕ) × (n ≡ length k) × Printed a b before after k)
 printed a b before after l n room kept put prints =
-    let on-page = over-from-put before l after n put in
-    ( room
-    , omega (arith, on-page .1, kept, ap length (on-page .0) ∙ length-append l (drop (length l) before))
-    , (l, on-page .1, record { page = on-page .0; prints = prints; law = λ ls rest. (b, prints, rest) }) )
+    let on-page = over-from-put before l after n put in (
+      room,
+      omega (arith, on-page .1, kept, ap length (on-page .0) ∙ length-append l (drop (length l) before)),
+      (l, on-page .1, record { page = on-page .0; prints = prints; law = λ ls rest. (b, prints, rest) }),
+    )
 
 pub prints-command : (a : State) (m : Meaning) (q : ℕ) (t : Tally) (e : Bool) → a .ended ≡ false → read m q ≡ reading (a .sheet-bytes) (a .place) → t ≡ afterwards (a .tally) m → e ≡ false → Prints a (textLine (said (a .tally) (a .place) m)) (record { sheet-bytes = a .sheet-bytes; place = q; tally = t; ended = e })
 prints-command a m q t e running is lines-are off = record {
   running = running;
   answered =
-      subst (Answered a (textLine (said (a .tally) (a .place) m)) (record { sheet-bytes = a .sheet-bytes; place = q; tally = t; ended = e })) is
-      ( refl
-      , ap (λ u. record { sheet-bytes = a .sheet-bytes; place = q; tally = u; ended = e }) lines-are
-        ∙ ap (λ v. record { sheet-bytes = a .sheet-bytes; place = q; tally = afterwards (a .tally) m; ended = v }) off );
+      subst (Answered a (textLine (said (a .tally) (a .place) m)) (record { sheet-bytes = a .sheet-bytes; place = q; tally = t; ended = e })) is (
+        refl,
+        ap (λ u. record { sheet-bytes = a .sheet-bytes; place = q; tally = u; ended = e }) lines-are
+            ∙ ap (λ v. record { sheet-bytes = a .sheet-bytes; place = q; tally = afterwards (a .tally) m; ended = v }) off,
+      );
 }
 
 pub prints-refusal : (a b : State) (n : ℕ) (vs : List ℕ) → a .ended ≡ false → refused n vs ≡ reading (a .sheet-bytes) (a .place) → b ≡ refusedNext a n → Prints a (refusedLine a n vs) b

@@ -94,7 +94,13 @@ fn put_detail(page: &mut [u8], at: usize, fault: &BookFault) -> usize
     ensures short { λ r. ⌜ r ≤ at + 80 ⌝ }
 {
     match *fault {
-        BookFault::Unbalanced(account, entering, leaving) => put_totals(page, at, account, entering, leaving),
+        BookFault::Unbalanced(account, entering, leaving) => put_totals(
+            page,
+            at,
+            account,
+            entering,
+            leaving,
+        ),
         _ => at,
     }
 }

@@ -1,6 +1,6 @@
 // Reads a sheet on standard input, and writes its statement on standard output.
-use sheet::Statement;
 use sheet::LONGEST_SHEET;
+use sheet::Statement;
 use std::io;
 use std::io::Read;
 use std::io::Write;
@@ -11,7 +11,9 @@ const LINES_AT_ONCE: usize = 256;
 fn main(rt: LibcRuntime) -> io::Result<()> {
     let mut bytes = Vec::new(rt.alloc());
     // one byte past the longest sheet tells that a sheet is too long
-    rt.stdin().take(LONGEST_SHEET as u64 + 1).read_to_end(&mut bytes)?;
+    rt.stdin()
+        .take(LONGEST_SHEET as u64 + 1)
+        .read_to_end(&mut bytes)?;
     print_statement(&rt, &bytes)
 }
 

@@ -2,9 +2,11 @@
 ghost use mathlib.Core.Path.{_≡_};
 ghost use Prim.Native.Nat.{ℕ, _*_, _<_, _≤_};
 ghost use lib.ListN.{length, getD};
+ghost use Rattle.book.specs.Faults.{checked};
 ghost use Rattle.book.specs.Limits.{mostLines, greatestAmount, accounts};
 ghost use Rattle.book.specs.Lines.{lines};
-ghost use Rattle.book.specs.Totals.{sideTotal, inTotal, outTotal, Balances, Compared};
+ghost use Rattle.book.specs.Outcome.{Outcome, stopped};
+ghost use Rattle.book.specs.Totals.{sideTotal, inTotal, outTotal, Balances, balanceStops, Compared};
 ghost use Rattle.book.specs.declared.table.Side.the-variants.{In, Out};
 use crate::ACCOUNTS;
 use crate::HIGHEST_ACCOUNT;
@@ -73,7 +75,8 @@ impl Book {
 
     // Yes, or the lowest account with live lines on both sides whose totals differ.
     pub fn balance(&self) -> Result<(), Fault>
-        ensures { λ r. ⌜ Balances (lines (now (self .entry))) r ⌝ }
+        ensures answer { λ r. ⌜ Balances (lines (now (self .entry))) r ⌝ }
+        ensures stop { λ r. ⌜ ((o : Outcome) → checked r o ≡ stopped (balanceStops (lines (now (self .entry)))) o) ⌝ }
     {
         compare(&self.in_totals(), &self.out_totals())
     }

@@ -5,8 +5,8 @@ ghost use Rattle.sheet.specs.Running.{Added, Ran};
 ghost use Rattle.sheet.specs.Statements.{shortestPage};
 ghost use Rattle.sheet.specs.Stepping.{state};
 ghost use Rattle.std.specs.Of.Vec.{vec-items};
-use crate::statement::Statement;
 use crate::SHORTEST_PAGE;
+use crate::statement::Statement;
 use std::alloc::AllocError;
 
 impl<'a> Statement<'a> {

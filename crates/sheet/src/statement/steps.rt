@@ -8,13 +8,13 @@ ghost use Rattle.sheet.specs.Page.{Put};
 ghost use Rattle.sheet.specs.Reading.{number, carries};
 ghost use Rattle.sheet.specs.Statements.{shortestPage, clean-state, textLine, refusedLine, refusedNext};
 ghost use Rattle.sheet.specs.Stepping.{state, Stepped};
+use crate::LONGEST_COMMAND;
+use crate::SHORTEST_PAGE;
 use crate::command::Fault;
 use crate::obeying::obey;
 use crate::reading::read;
 use crate::statement::Statement;
 use crate::text::say_sheet_refusal;
-use crate::LONGEST_COMMAND;
-use crate::SHORTEST_PAGE;
 use book::Book;
 
 impl<'a> Statement<'a> {

@@ -16,5 +16,5 @@ returns c =
     let head = c .put-head-end .ensures in
     let whole = put-then _ _ _ _ _ _ _ _ (omega (arith, head .put .place, head .short)) (head .put) (c .put .ensures) in
     let text = ap (λ n. refusalHead (codes "sheet") n (c .args .place)) (c .number .ensures)
-        ∙ (sym (append-nil (refusalHead (codes "sheet") (number f) (c .args .place))) ∙ ap (λ d. refusalHead (codes "sheet") (number f) (c .args .place) ++ d) (sym (no-sheet-detail f))) in
+    ∙ (sym (append-nil (refusalHead (codes "sheet") (number f) (c .args .place))) ∙ ap (λ d. refusalHead (codes "sheet") (number f) (c .args .place) ++ d) (sym (no-sheet-detail f))) in
     subst (λ bs. Put (c .args .page .now) 0 (textLine bs) (c .put .last .page) (c .put .result)) text whole

@@ -1,7 +1,9 @@
-use Rattle.book.proofs.Balance.{compared-balances, well-formed}
+use Rattle.book.proofs.Balance.{compared-balances, balances-stop, well-formed}
 use Rattle.book.specs.Lines.{lines}
 use Rattle.book.proofs.state.Book.balance.Needs as need
 
 pub returns : need.returns
 returns c =
-    compared-balances (lines (c .args .self .now)) (well-formed (c .args .self .now) .1) _ _ (c .in-totals .ensures .totals) (c .out-totals .ensures .totals) (c .compare .result) (c .compare .ensures)
+    let sound = well-formed (c .args .self .now) .1 in
+    let answer = compared-balances (lines (c .args .self .now)) sound _ _ (c .in-totals .ensures .totals) (c .out-totals .ensures .totals) (c .compare .result) (c .compare .ensures) in
+    record { answer = answer; stop = balances-stop (lines (c .args .self .now)) sound (c .compare .result) answer }

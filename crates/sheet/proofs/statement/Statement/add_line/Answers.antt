@@ -20,6 +20,6 @@ returns-in-Ok-Some c =
     let told : Stepped (state (c .args .self .now)) (c .args .page .now) (Ok (Some (c .in-Ok-Some .length))) (state (c .step .last .self)) (c .step .last .page) = search needs in
     let room = c .in-Continue-reserve .ensures tt .cases in
     let fine : isOk (c .extend-from-slice .result) ≡ true =
-        c .extend-from-slice .ensures .succeeds (omega (arith, room, told .1, c .pre, length-take (c .in-Ok-Some .length - 0) (c .step .last .page))) in
+    c .extend-from-slice .ensures .succeeds (omega (arith, room, told .1, c .pre, length-take (c .in-Ok-Some .length - 0) (c .step .last .page))) in
     line-added _ _ _ _ _ (c .in-Ok-Some .length - 0) _ _ told (omega arith)
     (c .extend-from-slice .ensures .items ∙ (cond-true _ _ _ fine ∙ ap (λ z. z ++ take (c .in-Ok-Some .length - 0) (c .step .last .page)) (c .in-Continue-reserve .ensures tt .items)))
