@@ -167,7 +167,7 @@ full-crosses t a d full entered left =
 
 -- accounts rise along a run
 module _ (t : Tally) (sound : All Sound t) where
-  rises : (a n : ℕ) → leaves a (at t n) ≡ true → a < toOf (at t n)
+  pub rises : (a n : ℕ) → leaves a (at t n) ≡ true → a < toOf (at t n)
   rises a n h = omega (arith, upward (at t n) (sound-at t sound n) (leaves-live a (at t n) h), leaves-from a (at t n) h)
 
   pub unleft-under : (a b : ℕ) (d : List ℕ) → runs t a d ≡ true → b < a → any (leavesBy t b) d ≡ false
