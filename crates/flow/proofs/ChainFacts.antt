@@ -1,21 +1,20 @@
 -- Facts on live lines, runs and chains: what a line's ends say, parts of chains, and accounts that rise along them. Assumes nothing.
 --   leavesBy, entersBy   whether the line of a number leaves an account, or enters it
-use mathlib.Core.Bool.{Bool, true, false, cond, _&&_, _||_}
+use mathlib.Core.Bool.{Bool, true, false, _&&_, _||_}
 use mathlib.Core.List.{List, [], _∷_, _++_}
-use mathlib.Core.Logic.{⊎-elim, inl, inr}
 use mathlib.Core.Path.{_≡_, refl, sym, ap, subst, _∙_}
 use Prim.Native.Nat.{ℕ, zero, suc, _+_, _<_, _≤_}
 use native.Mathlib.Omega.{arith}
 use lib.Dec.{eqb, leb}
-use lib.ListN.{length, getD}
-use Rattle.std.proofs.shelf.Tests.{cases-bool, cases-eq, and-parts, and-from, or-cases, or-left, or-right, or-from, both-ways, eqb-true, eq-eqb, ne-eqb, leb-true, le-leb}
+use lib.ListN.{length}
+use Rattle.std.proofs.shelf.Tests.{and-parts, and-from, or-from, both-ways, eqb-true, eq-eqb, ne-eqb, leb-true, le-leb}
 use Rattle.std.specs.shelf.Lists.{All}
-use Rattle.book.specs.Limits.{highestAccount, greatestAmount}
+use Rattle.book.specs.Limits.{highestAccount}
 use Rattle.book.specs.Tally.{Tally, at, isLive, Sound}
 use Rattle.book.specs.Totals.{any, enters, leaves, amountOf, Enters, Leaves}
 use Rattle.book.specs.declared.entries.Line.{Line}
 use Rattle.book.specs.declared.entries.Line.the-variants.{Live, Struck}
-use Rattle.flow.specs.Chains.{fromOf, toOf, runs, linked, isChain, Chain, start, runTo, finish, Full, longestChain}
+use Rattle.flow.specs.Chains.{fromOf, toOf, runs, linked, Chain, start, runTo, Full, longestChain}
 use Rattle.flow.specs.Splits.{holds}
 use Rattle.flow.proofs.Infix.{holds-parts, holds-length}
 use Rattle.flow.proofs.Sums.{Once, any-at}

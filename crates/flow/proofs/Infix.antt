@@ -1,14 +1,14 @@
 -- Lists that begin with another, or contain it unbroken. Assumes nothing.
 use mathlib.Core.Bool.{Bool, true, false, cond, _&&_, _||_}
 use mathlib.Core.List.{List, [], _∷_, _++_}
-use mathlib.Core.Logic.{⊎-elim, inl, inr}
+use mathlib.Core.Logic.{⊎-elim}
 use mathlib.Core.Path.{_≡_, refl, sym, ap, subst, _∙_}
-use Prim.Native.Nat.{ℕ, _+_, _<_, _≤_}
+use Prim.Native.Nat.{ℕ, _<_, _≤_}
 use native.Mathlib.Omega.{arith}
 use lib.Dec.{eqb}
 use lib.ListN.{length}
 use Rattle.std.proofs.shelf.Lists.{append-assoc, length-append}
-use Rattle.std.proofs.shelf.Tests.{cases-bool, cond-true, cond-false, or-cases, or-left, or-right, or-from, and-parts, and-from, both-ways, eqb-true, eqb-false, eq-eqb}
+use Rattle.std.proofs.shelf.Tests.{cases-bool, cond-true, cond-false, or-cases, or-left, or-right, or-from, and-parts, and-from, both-ways, eqb-true, eq-eqb}
 use Rattle.book.specs.Totals.{total, any}
 use Rattle.flow.specs.Splits.{begins, holds}
 use Rattle.flow.proofs.Sums.{below, Once, total-same, total-none, total-at}
@@ -16,6 +16,10 @@ use Rattle.flow.proofs.Sums.{below, Once, total-same, total-none, total-at}
 pub begins-append : (c y : List ℕ) → begins c (c ++ y) ≡ true
 begins-append [] y = refl
 begins-append (n ∷ c) y = and-from (eqb n n) (begins c (c ++ y)) (eq-eqb n n refl) (begins-append c y)
+
+pub begins-self : (c : List ℕ) → begins c c ≡ true
+begins-self [] = refl
+begins-self (n ∷ c) = and-from (eqb n n) (begins c c) (eq-eqb n n refl) (begins-self c)
 
 pub begins-parts : (c d : List ℕ) → begins c d ≡ true → (y : List ℕ) × (d ≡ c ++ y)
 begins-parts [] d h = (d, refl)
@@ -44,12 +48,7 @@ holds-parts c (n ∷ d) h =
     (or-cases (begins c (n ∷ d)) (holds c d) h)
 
 pub holds-self : (c : List ℕ) → holds c c ≡ true
-holds-self [] = refl
-holds-self (n ∷ c) = or-left (begins (n ∷ c) (n ∷ c)) (holds (n ∷ c) c) (and-from (eqb n n) (begins c c) (eq-eqb n n refl) (begins-self c))
-  where
-    begins-self : (d : List ℕ) → begins d d ≡ true
-    begins-self [] = refl
-    begins-self (m ∷ d) = and-from (eqb m m) (begins d d) (eq-eqb m m refl) (begins-self d)
+holds-self c = holds-begins c c (begins-self c)
 
 -- a part of a part is a part
 pub holds-trans : (c d e : List ℕ) → holds c d ≡ true → holds d e ≡ true → holds c e ≡ true

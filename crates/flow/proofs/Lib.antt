@@ -5,3 +5,4 @@ pub mod SplitTotals
 pub mod SplitExcess
 pub mod ExcessForms
 pub mod Parts
+pub mod WorkedBooks

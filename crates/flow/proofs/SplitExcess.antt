@@ -1,9 +1,9 @@
 -- Every split puts at least the excess on every chain. Assumes nothing.
-use mathlib.Core.Bool.{Bool, true, false, cond, _&&_, _||_}
+use mathlib.Core.Bool.{true, false, cond}
 use mathlib.Core.List.{List, [], _∷_}
 use mathlib.Core.Logic.{⊎-elim}
 use mathlib.Core.Path.{_≡_, refl, sym, ap, subst, _∙_}
-use Prim.Native.Nat.{ℕ, _+_, _<_, _≤_}
+use Prim.Native.Nat.{ℕ, _+_, _≤_}
 use native.Mathlib.Omega.{arith}
 use lib.Dec.{eqb}
 use lib.IntN.{ℤ, pos, _+ℤ_, _-ℤ_}
@@ -11,15 +11,15 @@ use lib.Signed.{_≤ℤ_}
 use Rattle.std.proofs.shelf.Signed.{ints}
 use Rattle.std.proofs.shelf.Tests.{cases-bool, cond-true, cond-false, and-parts, and-from, or-cases, or-left, or-right, both-ways, eqb-true}
 use Rattle.std.specs.shelf.Lists.{All}
-use Rattle.book.specs.Tally.{Tally, at, isLive, Sound, WellFormed}
-use Rattle.book.specs.Totals.{total, any, amountOf, inTotal, leaves, enters, Enters, Leaves}
+use Rattle.book.specs.Tally.{Tally, at, Sound, WellFormed}
+use Rattle.book.specs.Totals.{any, amountOf, inTotal, leaves, enters}
 use Rattle.book.specs.declared.table.Side.the-variants.{In}
 use Rattle.flow.specs.Chains.{Chain, Full, runs, start, fromOf, toOf}
 use Rattle.flow.specs.Excess.{excess, excessOn, joined}
 use Rattle.flow.specs.Splits.{Row, Split, begins, holds, puts}
-use Rattle.flow.proofs.ChainFacts.{leavesBy, entersBy, leaves-live, leaves-from, leaves-some, enters-own, enters-some, enters-to, chain-live, chain-rest, chain-joint, chain-runs, unleft-under, unentered-upto, full-crosses, rises}
+use Rattle.flow.proofs.ChainFacts.{leavesBy, entersBy, leaves-from, leaves-some, enters-own, enters-some, enters-to, chain-live, chain-rest, chain-joint, chain-runs, unleft-under, unentered-upto, full-crosses, rises}
 use Rattle.flow.proofs.Infix.{any-held, holds-one-step}
-use Rattle.flow.proofs.SplitTotals.{crossing, total-crossing}
+use Rattle.flow.proofs.SplitTotals.{total-crossing}
 use Rattle.flow.proofs.Sums.{total-le-all, total-add}
 
 -- the excess of a chain by its first line

@@ -1,22 +1,22 @@
 -- What a split puts through an account, and that a book with a split is balanced. Assumes nothing.
 --   crossing   the tonnes of a split's rows with a line on one side of an account
-use mathlib.Core.Bool.{Bool, true, false, cond}
+use mathlib.Core.Bool.{true, cond}
 use mathlib.Core.List.{List, [], _∷_}
 use mathlib.Core.Logic.{⊎-elim}
-use mathlib.Core.Path.{_≡_, refl, sym, ap, subst, _∙_}
-use Prim.Native.Nat.{ℕ, _<_}
+use mathlib.Core.Path.{_≡_, sym, ap, _∙_}
+use Prim.Native.Nat.{ℕ}
 use lib.ListN.{length}
-use Rattle.std.proofs.shelf.Tests.{cases-bool, cond-true, cond-false}
+use Rattle.std.proofs.shelf.Tests.{cases-bool, cond-false}
 use Rattle.std.specs.shelf.Lists.{All}
 use Rattle.book.specs.Tally.{Tally, at, isLive, Sound, WellFormed}
-use Rattle.book.specs.Totals.{total, any, figure, touches, sideTotal, amountOf, inTotal, outTotal, Enters, Leaves, Balanced}
+use Rattle.book.specs.Totals.{total, any, figure, touches, sideTotal, amountOf, Enters, Leaves, Balanced}
 use Rattle.book.specs.declared.entries.Line.{Line}
 use Rattle.book.specs.declared.entries.Line.the-variants.{Struck}
 use Rattle.book.specs.declared.table.Side.{Side}
 use Rattle.book.specs.declared.table.Side.the-variants.{In, Out}
 use Rattle.flow.specs.Chains.{start, Full, runs}
 use Rattle.flow.specs.Splits.{Row, Split, holds, puts}
-use Rattle.flow.proofs.ChainFacts.{entersBy, leavesBy, enters-live, leaves-live, live-within, enters-once, leaves-once, full-crosses, chain-runs}
+use Rattle.flow.proofs.ChainFacts.{enters-live, leaves-live, live-within, enters-once, leaves-once, full-crosses, chain-runs}
 use Rattle.flow.proofs.Infix.{weighs-once}
 use Rattle.flow.proofs.Sums.{below, Once, total-by-place, total-same, total-same-all, total-exchange, total-cond}
 

@@ -3,13 +3,13 @@
 --   Once    at most one element of a list passes a test
 use mathlib.Core.Bool.{Bool, true, false, cond, _||_}
 use mathlib.Core.List.{List, [], _∷_, _++_, map}
-use mathlib.Core.Logic.{⊎-elim, inl, inr}
-use mathlib.Core.Path.{_≡_, refl, sym, ap, subst, _∙_}
+use mathlib.Core.Logic.{⊎-elim}
+use mathlib.Core.Path.{_≡_, refl, sym, ap, _∙_}
 use Prim.Native.Nat.{ℕ, zero, suc, _+_, _<_, _≤_}
 use native.Mathlib.Omega.{arith}
 use lib.Dec.{eqb, eqb·suc-zero, eqb·zero-suc, eqb·suc-suc}
 use lib.ListN.{length, getD, set}
-use Rattle.std.proofs.shelf.Tests.{cases-bool, cond-true, cond-false, or-cases, or-parts, or-from, or-left, or-right, both-ways}
+use Rattle.std.proofs.shelf.Tests.{cond-false, or-cases, or-from, or-left, or-right, both-ways}
 use Rattle.std.specs.shelf.Lists.{All}
 use Rattle.book.specs.Totals.{total, any}
 

@@ -5,3 +5,4 @@ pub mod Rules
 pub mod Dividing
 pub mod Listing
 pub mod Promises
+pub mod Worked
