@@ -1,0 +1,4 @@
+pub mod DividingSums
+pub mod RuleLaws
+pub mod Walks
+pub mod Divided
