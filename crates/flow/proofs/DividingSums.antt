@@ -15,7 +15,7 @@ use Rattle.std.specs.shelf.Lists.{All, countBy}
 use Rattle.std.proofs.shelf.Lists.{length-set, getD-set-same, getD-set-other}
 use Rattle.std.proofs.shelf.Elements.{all-weaker}
 use Rattle.std.proofs.shelf.Sums.{sumBy-cons}
-use Rattle.std.proofs.shelf.Tests.{cases-bool, cases-eq, cases-lt, cond-true, cond-false, both-ways, or-cases, or-left, or-right, eq-eqb, ne-eqb}
+use Rattle.std.proofs.shelf.Tests.{cases-bool, cases-eq, cases-lt, cond-true, cond-false, both-ways, or-left, or-right, eq-eqb, ne-eqb}
 use Rattle.book.specs.Limits.{mostLines}
 use Rattle.book.specs.Tally.{Tally, at, isLive}
 use Rattle.book.specs.Totals.{total, any, amountOf}
@@ -24,19 +24,26 @@ use Rattle.book.specs.declared.entries.Line.the-variants.{Live, Struck}
 use Rattle.flow.specs.Dividing.{amounts, off, leastLeft}
 use Rattle.flow.specs.Splits.{holds}
 
--- some line passes a test, by its number
+-- the lowest number that passes a test, below a number that does
+first-such : (p : ℕ → Bool) (n : ℕ) → ((b : ℕ) → b < n → p b ≡ false) ⊎ ((m : ℕ) × (p m ≡ true) × ((b : ℕ) → b < m → p b ≡ false))
+first-such p zero = inl (λ b h. absurd (omega arith))
+first-such p (suc n) =
+    ⊎-elim
+    (λ none. ⊎-elim
+    (λ here. inr (n, here, none))
+    (λ gone. inl (λ b h. ⊎-elim (λ same. subst (λ j. p j ≡ false) (sym same) gone) (λ other. none b (omega arith)) (cases-eq b n)))
+    (cases-bool (p n)))
+    (λ found. inr found)
+    (first-such p n)
+
+pub lowest-such : (p : ℕ → Bool) (n : ℕ) → p n ≡ true → (m : ℕ) × (p m ≡ true) × ((b : ℕ) → b < m → p b ≡ false)
+lowest-such p n passes = ⊎-elim (λ none. absurd (both-ways (p n) (none n (omega arith)) passes)) (λ found. found) (first-such p (suc n))
+
+-- some line passes a test where the line of a number does
 pub any-at : (p : Line → Bool) (t : Tally) (n : ℕ) → p Struck ≡ false → p (at t n) ≡ true → any p t ≡ true
 any-at p [] n none here = absurd (both-ways (p Struck) none here)
 any-at p (l ∷ t) zero none here = or-left (p l) (any p t) here
 any-at p (l ∷ t) (suc n) none here = or-right (p l) (any p t) (any-at p t n none here)
-
-pub any-some : (p : Line → Bool) (t : Tally) → any p t ≡ true → (n : ℕ) × (p (at t n) ≡ true)
-any-some p [] h = absurd (both-ways false refl h)
-any-some p (l ∷ t) h =
-    ⊎-elim
-    (λ here. (0, here))
-    (λ later. let r = any-some p t later in (suc (r .0), r .1))
-    (or-cases (p l) (any p t) h)
 
 abbrev pub weigh : (Line → Bool) → Tally → List ℕ → ℕ
 weigh p [] ws = 0
@@ -56,9 +63,9 @@ weigh-some p (l ∷ t) (w ∷ ws) some =
     ⊎-elim
     (λ later. let r = weigh-some p t ws later in (suc (r .0), r .1, r .2))
     (λ none. ⊎-elim
-        (λ passes. (0, passes, omega (arith, cond-true (p l) w 0 passes)))
-        (λ fails. absurd (omega (arith, cond-false (p l) w 0 fails)))
-        (cases-bool (p l)))
+    (λ passes. (0, passes, omega (arith, cond-true (p l) w 0 passes)))
+    (λ fails. absurd (omega (arith, cond-false (p l) w 0 fails)))
+    (cases-bool (p l)))
     (cases-lt 0 (weigh p t ws))
 
 pub weigh-set : (p : Line → Bool) (t : Tally) (ws : List ℕ) (n v : ℕ) → p Struck ≡ false → n < length ws → weigh p t (set ws n v) + cond (p (at t n)) (getD ws n 0) 0 ≡ weigh p t ws + cond (p (at t n)) v 0
@@ -95,9 +102,9 @@ nothing-or-some (w ∷ ws) =
     ⊎-elim
     (λ some. inr (0, some))
     (λ none. ⊎-elim
-        (λ nothing. inl (elim [ zero ↦ omega arith | suc n ↦ nothing n ]))
-        (λ some. inr (suc (some .0), some .1))
-        (nothing-or-some ws))
+    (λ nothing. inl (elim [ zero ↦ omega arith | suc n ↦ nothing n ]))
+    (λ some. inr (suc (some .0), some .1))
+    (nothing-or-some ws))
     (cases-lt 0 w)
 
 pub within-from-some : (ws : List ℕ) (n : ℕ) → 0 < getD ws n 0 → n < length ws
@@ -175,6 +182,10 @@ abbrev pub Apart : List ℕ → Type 0
 Apart [] = Unit {0}
 Apart (n ∷ ns) = All (λ m. n ≡ m → ⊥) ns × Apart ns
 
+pub bears-from : (ws : List ℕ) (k : ℕ) (c : List ℕ) → All (λ n. 0 < getD ws n 0) c → All (λ n. k ≤ getD ws n 0) c → All (Bears ws k) c
+bears-from ws k [] some most = tt
+bears-from ws k (n ∷ ns) some most = ((within-from-some ws n (some .0), most .0), bears-from ws k ns (some .1) (most .1))
+
 module _ (ws : List ℕ) (k : ℕ) where
   pub length-off : (c : List ℕ) → length (off ws k c) ≡ length ws
   length-off [] = refl
@@ -189,9 +200,9 @@ module _ (ws : List ℕ) (k : ℕ) where
   off-at (m ∷ ms) bears n =
       ⊎-elim
       (λ same.
-          let now : getD (off ws k (m ∷ ms)) m 0 ≡ getD ws m 0 - k = getD-set-same (off ws k ms) m (getD ws m 0 - k) 0 (omega (arith, length-off ms, bears .0 .0)) in
-          let then : getD (off ws k (m ∷ ms)) n 0 ≡ getD ws m 0 - k = ap (λ j. getD (off ws k (m ∷ ms)) j 0) same ∙ now in
-          omega (arith, then, bears .0 .1, ap (λ j. getD ws j 0) same, cond-true (holds (n ∷ []) (m ∷ ms)) k 0 (holds-here n m ms same)))
+      let now : getD (off ws k (m ∷ ms)) m 0 ≡ getD ws m 0 - k = getD-set-same (off ws k ms) m (getD ws m 0 - k) 0 (omega (arith, length-off ms, bears .0 .0)) in
+      let then : getD (off ws k (m ∷ ms)) n 0 ≡ getD ws m 0 - k = ap (λ j. getD (off ws k (m ∷ ms)) j 0) same ∙ now in
+      omega (arith, then, bears .0 .1, ap (λ j. getD ws j 0) same, cond-true (holds (n ∷ []) (m ∷ ms)) k 0 (holds-here n m ms same)))
       (λ other. omega (arith, getD-set-other (off ws k ms) m n (getD ws m 0 - k) 0 other, off-at ms (bears .1) n, ap (λ v. cond v k 0) (holds-later n m ms other)))
       (cases-eq n m)
 

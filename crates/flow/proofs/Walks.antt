@@ -1,10 +1,10 @@
 -- Walks under a rule: they are full chains, and where the tonnes left are fair there is exactly one from every origin with tonnes on a line out. Assumes nothing.
 --   Fair     the tonnes left: none off the live lines, and as much into as out of each account with live lines on both sides
-use mathlib.Core.Bool.{Bool, true, false, cond, _&&_}
+use mathlib.Core.Bool.{true, false, cond}
 use mathlib.Core.List.{List, [], _∷_, _++_}
-use mathlib.Core.Logic.{_⊎_, inl, inr, ⊎-elim}
+use mathlib.Core.Logic.{⊎-elim}
 use mathlib.Core.Path.{_≡_, refl, sym, ap, subst, _∙_}
-use Prim.Native.Nat.{ℕ, zero, suc, _+_, _-_, _<_, _≤_}
+use Prim.Native.Nat.{ℕ, zero, suc, _+_, _<_, _≤_}
 use native.Mathlib.Omega.{arith}
 use lib.Dec.{eqb, leb}
 use lib.ListN.{length, getD}
@@ -16,10 +16,10 @@ use Rattle.book.specs.Tally.{Tally, at, isLive, Sound, WellFormed}
 use Rattle.book.specs.Totals.{total, any, enters, leaves, Enters, Leaves}
 use Rattle.book.specs.declared.entries.Line.{Line}
 use Rattle.book.specs.declared.entries.Line.the-variants.{Live, Struck}
-use Rattle.flow.specs.Chains.{fromOf, toOf, runs, runTo, linked, Chain, Origin, Ending, Full, longestChain}
+use Rattle.flow.specs.Chains.{fromOf, toOf, runs, runTo, linked, Origin, Full, longestChain}
 use Rattle.flow.specs.Dividing.{Walk}
 use Rattle.flow.specs.Rules.{Choice, Law, Open}
-use Rattle.flow.proofs.DividingSums.{any-at, any-some, weigh, weigh-at, weigh-some, Apart}
+use Rattle.flow.proofs.DividingSums.{any-at, weigh, weigh-at, weigh-some, Apart}
 use Rattle.flow.proofs.RuleLaws.{open-leaves, open-some, open-from}
 
 -- what leaves or enters an account is a live line, and a live line goes up
@@ -66,6 +66,10 @@ module _ (t : Tally) where
 
   pub runs-rest : (a n : ℕ) (ns : List ℕ) → runs t a (n ∷ ns) ≡ true → runs t (toOf (at t n)) ns ≡ true
   runs-rest a n ns h = and-parts (leaves a (at t n)) (runs t (toOf (at t n)) ns) h .1
+
+  pub runs-live : (a : ℕ) (c : List ℕ) → runs t a c ≡ true → All (λ n. isLive (at t n) ≡ true) c
+  runs-live a [] h = tt
+  runs-live a (n ∷ ns) h = (leaves-from a (at t n) (runs-first a n ns h) .0, runs-live (toOf (at t n)) ns (runs-rest a n ns h))
 
   -- they enter each account as often as they leave it, but for the first and the last
   pub runs-even : (b : ℕ) (c : List ℕ) → runs t b c ≡ true → (a k : ℕ) → total (λ n. cond (enters a (at t n)) k 0) c + cond (eqb b a) k 0 ≡ total (λ n. cond (leaves a (at t n)) k 0) c + cond (eqb (runTo t b c) a) k 0
@@ -124,6 +128,9 @@ module _ (t : Tally) where
           };
         }
 
+pub open-left : (t : Tally) (left : List ℕ) (a n : ℕ) → Open t left a n → Leaves t a
+open-left t left a n opened = any-at (leaves a) t n refl (open-leaves t left a n opened)
+
 -- a walk is such a run of lines, each with tonnes left
 module _ (choice : Choice) (t : Tally) (left : List ℕ) where
   pub walk-runs : (a : ℕ) (walked c : List ℕ) → Walk choice t left a walked c → runs t a c ≡ true
@@ -139,18 +146,19 @@ module _ (choice : Choice) (t : Tally) (left : List ℕ) where
   walk-some a walked [] w = tt
   walk-some a walked (n ∷ ns) w = (open-some t left a n (w .1), walk-some (toOf (at t n)) (walked ++ n ∷ []) ns (w .2))
 
-  pub open-left : (a n : ℕ) → Open t left a n → Leaves t a
-  open-left a n opened = any-at (leaves a) t n refl (open-leaves t left a n opened)
-
   -- there is but one from an account
   pub walk-alone : (a : ℕ) (walked c d : List ℕ) → Walk choice t left a walked c → Walk choice t left a walked d → c ≡ d
   walk-alone a walked [] [] v w = refl
-  walk-alone a walked [] (m ∷ ms) v w = absurd (both-ways (any (leaves a) t) v (open-left a m (w .1)))
-  walk-alone a walked (n ∷ ns) [] v w = absurd (both-ways (any (leaves a) t) w (open-left a n (v .1)))
+  walk-alone a walked [] (m ∷ ms) v w = absurd (both-ways (any (leaves a) t) v (open-left t left a m (w .1)))
+  walk-alone a walked (n ∷ ns) [] v w = absurd (both-ways (any (leaves a) t) w (open-left t left a n (v .1)))
   walk-alone a walked (n ∷ ns) (m ∷ ms) v w =
       let same : n ≡ m = v .0 ∙ sym (w .0) in
       ap (λ rest. n ∷ rest) (walk-alone (toOf (at t n)) (walked ++ n ∷ []) ns ms (v .2) (subst (λ j. Walk choice t left (toOf (at t j)) (walked ++ j ∷ []) ms) (sym same) (w .2)))
       ∙ ap (λ j. j ∷ ms) same
+
+-- tonnes on the lines out of an account are on an open line
+pub open-out : (t : Tally) (left : List ℕ) (a : ℕ) → 0 < weigh (leaves a) t left → (n : ℕ) × Open t left a n
+open-out t left a some = let r = weigh-some (leaves a) t left some in (r .0, open-from t left a (r .0) (r .1) (r .2))
 
 pub record Fair (t : Tally) (left : List ℕ) : Type 0 where
   pub whole : length left ≡ mostLines
@@ -158,15 +166,12 @@ pub record Fair (t : Tally) (left : List ℕ) : Type 0 where
   pub even : (a : ℕ) → Enters t a → Leaves t a → weigh (enters a) t left ≡ weigh (leaves a) t left
 
 module _ (t : Tally) (left : List ℕ) (formed : WellFormed t) (fair : Fair t left) where
-  pub open-out : (a : ℕ) → 0 < weigh (leaves a) t left → (n : ℕ) × Open t left a n
-  open-out a some = let r = weigh-some (leaves a) t left some in (r .0, open-from t left a (r .0) (r .1) (r .2))
-
   -- what was entered by a line with tonnes left is left by such a line, if at all
   pub open-on : (a n : ℕ) → Open t left a n → Leaves t (toOf (at t n)) → (m : ℕ) × Open t left (toOf (at t n)) m
   open-on a n opened left-on =
       let to = toOf (at t n) in
       let into = goes-into t formed a n (open-leaves t left a n opened) in
-      open-out to (omega (arith, fair .even to (any-at (enters to) t n refl into) left-on, weigh-at (enters to) t left n refl into, open-some t left a n opened))
+      open-out t left to (omega (arith, fair .even to (any-at (enters to) t n refl into) left-on, weigh-at (enters to) t left n refl into, open-some t left a n opened))
 
   -- so a walk goes on to an end account
   pub walk-from : (choice : Choice) → Law choice → (fuel a : ℕ) (walked : List ℕ) → accounts ≤ fuel + a → (Leaves t a → (n : ℕ) × Open t left a n) → (c : List ℕ) × Walk choice t left a walked c
@@ -178,12 +183,12 @@ module _ (t : Tally) (left : List ℕ) (formed : WellFormed t) (fair : Fair t le
   walk-from choice law (suc fuel) a walked enough on =
       ⊎-elim
       (λ some.
-          let r = on some in
-          let n = choice t left a walked in
-          let opened : Open t left a n = law t left a walked formed (fair .whole) (r .0) (r .1) in
-          let up = goes-up t formed a n (open-leaves t left a n opened) in
-          let rest = walk-from choice law fuel (toOf (at t n)) (walked ++ n ∷ []) (omega (arith, up .0)) (open-on a n opened) in
-          (n ∷ rest .0, (refl, opened, rest .1)))
+      let r = on some in
+      let n = choice t left a walked in
+      let opened : Open t left a n = law t left a walked formed (fair .whole) (r .0) (r .1) in
+      let up = goes-up t formed a n (open-leaves t left a n opened) in
+      let rest = walk-from choice law fuel (toOf (at t n)) (walked ++ n ∷ []) (omega (arith, up .0)) (open-on a n opened) in
+      (n ∷ rest .0, (refl, opened, rest .1)))
       (λ none. ([], none))
       (cases-bool (any (leaves a) t))
 
@@ -196,9 +201,9 @@ module _ (t : Tally) (left : List ℕ) (formed : WellFormed t) (fair : Fair t le
       let leaves-a : Leaves t a = any-at (leaves a) t n refl out in
       ⊎-elim
       (λ entered.
-          let r = weigh-some (enters a) t left (omega (arith, fair .even a entered leaves-a, weigh-at (leaves a) t left n refl out)) in
-          let is = enters-to a (at t (r .0)) (r .1) in
-          let up = live-up (at t (r .0)) (sound-at t (r .0) (formed .1)) (is .0) in
-          open-origin fuel (r .0) (omega (arith, up .0, is .1)) (is .0) (r .2))
+      let r = weigh-some (enters a) t left (omega (arith, fair .even a entered leaves-a, weigh-at (leaves a) t left n refl out)) in
+      let is = enters-to a (at t (r .0)) (r .1) in
+      let up = live-up (at t (r .0)) (sound-at t (r .0) (formed .1)) (is .0) in
+      open-origin fuel (r .0) (omega (arith, up .0, is .1)) (is .0) (r .2))
       (λ unentered. (a, n, record { left = leaves-a; unentered = unentered }, open-from t left a n out some))
       (cases-bool (any (enters a) t))
