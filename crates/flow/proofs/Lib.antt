@@ -6,3 +6,7 @@ pub mod SplitExcess
 pub mod ExcessForms
 pub mod Parts
 pub mod WorkedBooks
+pub mod DividingSums
+pub mod RuleLaws
+pub mod Walks
+pub mod Divided
