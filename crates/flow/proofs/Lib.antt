@@ -1,0 +1,4 @@
+pub mod Order
+pub mod ListingInfix
+pub mod AllChains
+pub mod Listed
