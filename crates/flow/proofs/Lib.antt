@@ -10,3 +10,7 @@ pub mod DividingSums
 pub mod RuleLaws
 pub mod Walks
 pub mod Divided
+pub mod Order
+pub mod ListingInfix
+pub mod AllChains
+pub mod Listed
