@@ -1,0 +1,2 @@
+pub mod AvoidingSums
+pub mod AvoidingLaw
