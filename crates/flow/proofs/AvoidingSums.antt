@@ -15,6 +15,10 @@ use Rattle.book.specs.Totals.{total, any}
 use Rattle.flow.specs.Rules.{sameList, endsWith}
 use Rattle.flow.specs.Splits.{begins, holds}
 
+pub false-unless : (b : Bool) → (b ≡ true → ⊥) → b ≡ false
+false-unless true never = absurd (never refl)
+false-unless false never = refl
+
 -- what adds up the same for each element adds up the same in all
 pub total-same : {X : Type 0} (f g : X → ℕ) (xs : List X) → All (λ x. f x ≡ g x) xs → total f xs ≡ total g xs
 total-same f g [] same = refl

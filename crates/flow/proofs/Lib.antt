@@ -1,2 +1,4 @@
 pub mod AvoidingSums
 pub mod AvoidingLaw
+pub mod AvoidingChains
+pub mod Avoiding
