@@ -12,7 +12,7 @@ use Rattle.std.proofs.shelf.Lists.{append-assoc, append-nil}
 use Rattle.std.proofs.shelf.Tests.{and-parts, and-from, or-cases, or-left, or-right, eqb-true, eqb-false, eq-eqb, ne-eqb, not-true, not-from-false, both-ways, cases-bool, cases-eq, cond-true, cond-false, cond-both}
 use Rattle.std.specs.shelf.Lists.{All}
 use Rattle.book.specs.Tally.{Tally, at, isLive, Sound}
-use Rattle.book.specs.Totals.{total, any, leaves, amountOf, outTotal, figure}
+use Rattle.book.specs.Totals.{total, any, enters, leaves, amountOf, outTotal, figure}
 use Rattle.book.specs.declared.entries.Line.{Line}
 use Rattle.book.specs.declared.entries.Line.the-variants.{Live, Struck}
 use Rattle.book.specs.declared.table.Side.the-variants.{Out}
@@ -43,14 +43,30 @@ leaves-up-line : (a : ℕ) (l : Line) → Sound l → leaves a l ≡ true → a 
 leaves-up-line a (Live from to amount) sound out = omega (arith, sound .0, eqb-true from a out)
 leaves-up-line a Struck sound out = absurd (both-ways false refl out)
 
--- some line of the tally leaves the account that a line leaves
-pub any-at : (u : ℕ) (t : Tally) (n : ℕ) → leaves u (at t n) ≡ true → any (leaves u) t ≡ true
-any-at u [] n out = absurd (both-ways false refl out)
-any-at u (l ∷ t) zero out = or-left (leaves u l) (any (leaves u) t) out
-any-at u (l ∷ t) (suc n) out = or-right (leaves u l) (any (leaves u) t) (any-at u t n out)
+-- a line found at its number is one of the tally
+pub any-at : (test : Line → Bool) (t : Tally) (n : ℕ) → test Struck ≡ false → test (at t n) ≡ true → any test t ≡ true
+any-at test [] n never is = absurd (both-ways (test Struck) never is)
+any-at test (l ∷ t) zero never is = or-left (test l) (any test t) is
+any-at test (l ∷ t) (suc n) never is = or-right (test l) (any test t) (any-at test t n never is)
+
+enters-own : (l : Line) → isLive l ≡ true → enters (toOf l) l ≡ true
+enters-own (Live from to amount) live = eq-eqb to to refl
+enters-own Struck live = absurd (both-ways false refl live)
+
+-- some line enters the account that lines lead to
+pub entered : (t : Tally) (m : ℕ) (ns z : List ℕ) → isLive (at t m) ≡ true → runs t (toOf (at t m)) (ns ++ z) ≡ true → any (enters (runTo t (toOf (at t m)) ns)) t ≡ true
+entered t m [] z live run = any-at (enters (toOf (at t m))) t m refl (enters-own (at t m) live)
+entered t m (n ∷ ns) z live run =
+    let p = and-parts (leaves (toOf (at t m)) (at t n)) (runs t (toOf (at t n)) (ns ++ z)) run in
+    entered t n ns z (leaves-live (toOf (at t m)) (at t n) (p .0)) (p .1)
+
+pub amount-within : (u : ℕ) (t : Tally) (n : ℕ) → leaves u (at t n) ≡ true → amountOf (at t n) ≤ outTotal t u
+amount-within u [] n out = absurd (both-ways false refl out)
+amount-within u (l ∷ t) zero out = omega (arith, cond-true (leaves u l) (amountOf l) 0 out)
+amount-within u (l ∷ t) (suc n) out = omega (arith, amount-within u t n out)
 
 module _ (t : Tally) (sound : All Sound t) where
-  leaves-up : (a n : ℕ) → leaves a (at t n) ≡ true → a < toOf (at t n)
+  pub leaves-up : (a n : ℕ) → leaves a (at t n) ≡ true → a < toOf (at t n)
   leaves-up a n out = leaves-up-line a (at t n) (all-getD Sound t n Struck (leaves-posted t a n out) sound) out
 
   -- lines that run on from an account leave it or higher ones

@@ -2,3 +2,4 @@ pub mod AvoidingSums
 pub mod AvoidingLaw
 pub mod AvoidingChains
 pub mod Avoiding
+pub mod Certainty
