@@ -1,161 +1,34 @@
--- The split that the avoiding rule makes puts exactly the certain figure on its chain. Assumes nothing.
-use mathlib.Core.Bool.{Bool, true, false, not, cond, _&&_, _||_}
+-- The split that the avoiding rule makes puts exactly the certain figure on its chain. Assumes Dividing-is-split, as a hypothesis.
+use mathlib.Core.Bool.{Bool, true, false, not, cond, _&&_}
 use mathlib.Core.List.{List, [], _∷_, _++_}
 use mathlib.Core.Logic.{⊎-elim, _⊎_, inl, inr}
 use mathlib.Core.Path.{_≡_, refl, sym, ap, subst, _∙_}
-use Prim.Native.Nat.{ℕ, zero, suc, _+_, _-_, _<_, _≤_}
+use Prim.Native.Nat.{ℕ, _+_, _-_, _<_, _≤_}
 use native.Mathlib.Omega.{arith}
-use lib.Dec.{eqb, ltb, leb}
+use lib.Dec.{eqb, ltb}
 use lib.IntN.{ℤ, pos, negsuc, _+ℤ_, _-ℤ_}
 use lib.ListN.{length, getD, set}
 use lib.Signed.{_≤ℤ_}
 use Rattle.std.proofs.shelf.Elements.{all-weaker}
 use Rattle.std.proofs.shelf.Lists.{append-assoc, append-nil, getD-set-same, getD-set-other, set-past}
 use Rattle.std.proofs.shelf.Signed.{ints}
-use Rattle.std.proofs.shelf.Tests.{and-parts, and-from, and-left, and-right, and-cases, eqb-true, eqb-false, eq-eqb, ne-eqb, ltb-true, ltb-false, not-true, not-from-false, not-from-true, both-ways, cases-bool, cases-eq, cases-lt, cond-true, cond-false}
+use Rattle.std.proofs.shelf.Tests.{and-parts, and-right, and-cases, eqb-true, eqb-false, eq-eqb, ne-eqb, ltb-true, ltb-false, not-true, both-ways, cases-bool, cases-eq, cases-lt, cond-true, cond-false}
 use Rattle.std.specs.shelf.Lists.{All}
 use Rattle.book.specs.Tally.{Tally, at, isLive, Sound, WellFormed}
-use Rattle.book.specs.Totals.{total, any, enters, leaves, amountOf, inTotal, outTotal, Balanced}
-use Rattle.flow.specs.Chains.{fromOf, toOf, runs, linked, isChain, start, runTo, finish, Chain, Full}
+use Rattle.book.specs.Totals.{total, any, enters, leaves, amountOf, inTotal, Balanced}
+use Rattle.flow.specs.Chains.{fromOf, toOf, runs, isChain, runTo, Chain}
 use Rattle.flow.specs.Dividing.{amounts, Walk, IsRow, off, Divides, Dividing}
 use Rattle.flow.specs.Excess.{joined, excessOn, excess, positive, figure}
 use Rattle.flow.specs.Promises.{Dividing-is-split, Avoiding-reaches-figure}
 use Rattle.flow.specs.Rules.{Choice, Open, isOpen, lowestOf, lowest, turn, endsWith, avoidingFrom, avoiding}
 use Rattle.flow.specs.Splits.{Row, Split, holds, puts}
-use Rattle.flow.proofs.AvoidingChains.{runs-append, runTo-append, chain-linked, linked-runs, leaves-up, runs-rise, runs-single, any-at, entered, amount-within, passes, passing-total}
+use Rattle.flow.proofs.AvoidingChains.{runs-append, chain-linked, leaves-up, runs-rise, any-at, entered, amount-within}
 use Rattle.flow.proofs.AvoidingLaw.{lowestOf-finds, leaves-posted, leaves-from, leaves-live, leaves-own, law-avoiding}
-use Rattle.flow.proofs.AvoidingSums.{false-unless, total-same, total-sum, total-none, holds-parts, holds-within, holds-front, holds-back, any-found, any-from, endsWith-end, endsWith-parts}
-
--- whether a chain leaves the account that a line leaves by another line, and whether it does so without the lines before it
-abbrev other : Tally → ℕ → List ℕ → Bool
-other t p d = any (λ n. leaves (fromOf (at t p)) (at t n) && not (eqb n p)) d
-
-abbrev strays : Tally → List ℕ → ℕ → List ℕ → Bool
-strays t front p d = not (holds front d) && other t p d
-
-other-passes : (t : Tally) (p : ℕ) (d : List ℕ) → other t p d ≡ true → (n : ℕ) × (leaves (fromOf (at t p)) (at t n) ≡ true) × (n ≡ p → ⊥) × (holds (n ∷ []) d ≡ true)
-other-passes t p d h =
-    let found = any-found (λ n. leaves (fromOf (at t p)) (at t n) && not (eqb n p)) d h in
-    let n = found .0 in
-    let parts = and-parts (leaves (fromOf (at t p)) (at t n)) (not (eqb n p)) (found .1) in
-    (n, parts .0, eqb-false n p (not-true (eqb n p) (parts .1)), found .2)
-
-other-from : (t : Tally) (p n : ℕ) (d : List ℕ) → leaves (fromOf (at t p)) (at t n) ≡ true → (n ≡ p → ⊥) → holds (n ∷ []) d ≡ true → other t p d ≡ true
-other-from t p n d out differ has =
-    any-from (λ m. leaves (fromOf (at t p)) (at t m) && not (eqb m p)) n d
-    (and-from (leaves (fromOf (at t p)) (at t n)) (not (eqb n p)) out (not-from-false (eqb n p) (ne-eqb n p differ)))
-    has
-
-module _ (t : Tally) (sound : All Sound t) (front : List ℕ) (p : ℕ) (out : leaves (fromOf (at t p)) (at t p) ≡ true) (meets : (a : ℕ) → runTo t a front ≡ fromOf (at t p)) where
-  -- a full chain that holds the lines before goes on with one that leaves the account
-  goes-on : (d : List ℕ) → Full t d → holds front d ≡ true → (n : ℕ) × (leaves (fromOf (at t p)) (at t n) ≡ true) × (holds (front ++ n ∷ []) d ≡ true)
-  goes-on d full has = let q = holds-parts front d has in next (q .0) (q .1) (q .2)
-    where
-      next : (w z : List ℕ) → d ≡ w ++ (front ++ z) → (n : ℕ) × (leaves (fromOf (at t p)) (at t n) ≡ true) × (holds (front ++ n ∷ []) d ≡ true)
-      next w [] is =
-          let ends : finish t d ≡ fromOf (at t p) = ap (runTo t (start t d)) is ∙ (runTo-append t (start t d) w (front ++ []) ∙ (ap (runTo t (runTo t (start t d) w)) (append-nil front) ∙ meets (runTo t (start t d) w))) in
-          absurd (both-ways (any (leaves (finish t d)) t) (full .ending .unleft) (subst (λ a. any (leaves a) t ≡ true) (sym ends) (any-at (leaves (fromOf (at t p))) t p refl out)))
-      next w (n ∷ z) is =
-          let run : runs t (start t d) (w ++ (front ++ n ∷ z)) ≡ true = subst (λ l. runs t (start t d) l ≡ true) is (linked-runs t d (chain-linked t d (full .chain))) in
-          let on : runs t (runTo t (runTo t (start t d) w) front) (n ∷ z) ≡ true = runs-append t (runTo t (start t d) w) front (n ∷ z) (runs-append t (start t d) w (front ++ n ∷ z) run) in
-          let here : runs t (fromOf (at t p)) (n ∷ z) ≡ true = subst (λ a. runs t a (n ∷ z) ≡ true) (meets (runTo t (start t d) w)) on in (
-            n,
-            and-parts (leaves (fromOf (at t p)) (at t n)) (runs t (toOf (at t n)) z) here .0,
-            subst (λ l. holds (front ++ n ∷ []) l ≡ true) (sym (is ∙ ap (λ l. w ++ l) (sym (append-assoc front (n ∷ []) z)))) (holds-within w (front ++ n ∷ []) z),
-          )
-
-  -- how a full chain passes the account
-  row-adds : (d : List ℕ) (k : ℕ) → Full t d → cond (holds front d) k 0 + cond (strays t front p d) k 0 + cond (holds (p ∷ []) d) k 0 ≡ cond (holds (front ++ p ∷ []) d) k 0 + cond (passes t (fromOf (at t p)) d) k 0
-  row-adds d k full = ⊎-elim whole (λ broken. ⊎-elim (turns-off broken) (apart broken) (cases-bool (holds front d))) (cases-bool (holds (front ++ p ∷ []) d))
-    where
-      Adds : Type 0
-      Adds = cond (holds front d) k 0 + cond (strays t front p d) k 0 + cond (holds (p ∷ []) d) k 0 ≡ cond (holds (front ++ p ∷ []) d) k 0 + cond (passes t (fromOf (at t p)) d) k 0
-
-      single : (m n : ℕ) → leaves (fromOf (at t p)) (at t m) ≡ true → leaves (fromOf (at t p)) (at t n) ≡ true → holds (m ∷ []) d ≡ true → holds (n ∷ []) d ≡ true → m ≡ n
-      single m n out-m out-n has-m has-n = runs-single t sound (start t d) d m n (linked-runs t d (chain-linked t d (full .chain))) has-m has-n (leaves-from (fromOf (at t p)) (at t m) out-m ∙ sym (leaves-from (fromOf (at t p)) (at t n) out-n))
-
-      passing : (n : ℕ) → leaves (fromOf (at t p)) (at t n) ≡ true → holds (n ∷ []) d ≡ true → passes t (fromOf (at t p)) d ≡ true
-      passing n out-n has = any-from (λ m. leaves (fromOf (at t p)) (at t m)) n d out-n has
-
-      full-tonnes : (b : Bool) → b ≡ true → cond b k 0 ≡ k
-      full-tonnes b h = cond-true b k 0 h
-
-      no-tonnes : (b : Bool) → b ≡ false → cond b k 0 ≡ 0
-      no-tonnes b h = cond-false b k 0 h
-
-      kept : holds front d ≡ true → strays t front p d ≡ false
-      kept has = and-left (not (holds front d)) (other t p d) (not-from-true (holds front d) has)
-
-      whole : holds (front ++ p ∷ []) d ≡ true → Adds
-      whole has =
-          let before = holds-front front (p ∷ []) d has in
-          let taken = holds-back front (p ∷ []) d has in
-          omega (
-            arith,
-            full-tonnes (holds (front ++ p ∷ []) d) has,
-            full-tonnes (holds front d) before,
-            no-tonnes (strays t front p d) (kept before),
-            full-tonnes (holds (p ∷ []) d) taken,
-            full-tonnes (passes t (fromOf (at t p)) d) (passing p out taken),
-          )
-
-      turns-off : holds (front ++ p ∷ []) d ≡ false → holds front d ≡ true → Adds
-      turns-off broken has =
-          let on = goes-on d full has in
-          let taken = holds-back front (on .0 ∷ []) d (on .2) in
-          let differ : on .0 ≡ p → ⊥ = λ same. both-ways (holds (front ++ p ∷ []) d) broken (subst (λ n. holds (front ++ n ∷ []) d ≡ true) same (on .2)) in
-          omega (
-            arith,
-            no-tonnes (holds (front ++ p ∷ []) d) broken,
-            full-tonnes (holds front d) has,
-            no-tonnes (strays t front p d) (kept has),
-            no-tonnes (holds (p ∷ []) d) (false-unless (holds (p ∷ []) d) (λ has-p. differ (single (on .0) p (on .1) out taken has-p))),
-            full-tonnes (passes t (fromOf (at t p)) d) (passing (on .0) (on .1) taken),
-          )
-
-      stray-if : holds front d ≡ false → other t p d ≡ true → strays t front p d ≡ true
-      stray-if gone is = and-from (not (holds front d)) (other t p d) (not-from-false (holds front d) gone) is
-
-      stray-unless : (other t p d ≡ true → ⊥) → strays t front p d ≡ false
-      stray-unless never = and-right (not (holds front d)) (other t p d) (false-unless (other t p d) never)
-
-      taken-apart : holds (front ++ p ∷ []) d ≡ false → holds front d ≡ false → holds (p ∷ []) d ≡ true → Adds
-      taken-apart broken gone has =
-          omega (
-            arith,
-            no-tonnes (holds (front ++ p ∷ []) d) broken,
-            no-tonnes (holds front d) gone,
-            no-tonnes (strays t front p d) (stray-unless (λ is. let q = other-passes t p d is in q .2 (single (q .0) p (q .1) out (q .3) has))),
-            full-tonnes (holds (p ∷ []) d) has,
-            full-tonnes (passes t (fromOf (at t p)) d) (passing p out has),
-          )
-
-      untaken : holds (front ++ p ∷ []) d ≡ false → holds front d ≡ false → holds (p ∷ []) d ≡ false → Adds
-      untaken broken gone never =
-          ⊎-elim
-          (λ some.
-              let found = any-found (λ m. leaves (fromOf (at t p)) (at t m)) d some in
-              let differ : found .0 ≡ p → ⊥ = λ same. both-ways (holds (p ∷ []) d) never (subst (λ n. holds (n ∷ []) d ≡ true) same (found .2)) in
-              let stray = stray-if gone (other-from t p (found .0) d (found .1) differ (found .2)) in
-              omega (arith, no-tonnes (holds (front ++ p ∷ []) d) broken, no-tonnes (holds front d) gone, no-tonnes (holds (p ∷ []) d) never, full-tonnes (strays t front p d) stray, full-tonnes (passes t (fromOf (at t p)) d) some))
-          (λ none.
-              let tame = stray-unless (λ is. let q = other-passes t p d is in both-ways (passes t (fromOf (at t p)) d) none (passing (q .0) (q .1) (q .3))) in
-              omega (arith, no-tonnes (holds (front ++ p ∷ []) d) broken, no-tonnes (holds front d) gone, no-tonnes (holds (p ∷ []) d) never, no-tonnes (strays t front p d) tame, no-tonnes (passes t (fromOf (at t p)) d) none))
-          (cases-bool (passes t (fromOf (at t p)) d))
-
-      apart : holds (front ++ p ∷ []) d ≡ false → holds front d ≡ false → Adds
-      apart broken gone = ⊎-elim (taken-apart broken gone) (untaken broken gone) (cases-bool (holds (p ∷ []) d))
-
-  -- so do all rows of a split: what holds the lines before and what strays, against what goes on with the line
-  pub rows-add : (s : List Row) → Split t s → puts s front + total (λ r. cond (strays t front p (r .chain)) (r .tonnes) 0) s + puts s (p ∷ []) ≡ puts s (front ++ p ∷ []) + outTotal t (fromOf (at t p))
-  rows-add s split = omega (arith, each s (split .full), passing-total t sound (fromOf (at t p)) s split)
-    where
-      each : (s : List Row) → All (λ r. Full t (r .chain)) s → puts s front + total (λ r. cond (strays t front p (r .chain)) (r .tonnes) 0) s + puts s (p ∷ []) ≡ puts s (front ++ p ∷ []) + total (λ r. cond (passes t (fromOf (at t p)) (r .chain)) (r .tonnes) 0) s
-      each [] full = refl
-      each (r ∷ s) full = omega (arith, row-adds (r .chain) (r .tonnes) (full .0), each s (full .1))
+use Rattle.flow.proofs.AvoidingRows.{other, strays, other-passes, rows-add}
+use Rattle.flow.proofs.AvoidingSums.{false-unless, total-none, holds-parts, holds-within, holds-back, any-found, any-from, endsWith-end, endsWith-parts}
 
 -- a walk takes open lines, each the one that its rule names
-pub walk-at : (choice : Choice) (t : Tally) (left : List ℕ) (a : ℕ) (walked w : List ℕ) (n : ℕ) (z : List ℕ) → Walk choice t left a walked (w ++ n ∷ z) → (n ≡ choice t left (fromOf (at t n)) (walked ++ w)) × Open t left (fromOf (at t n)) n
+walk-at : (choice : Choice) (t : Tally) (left : List ℕ) (a : ℕ) (walked w : List ℕ) (n : ℕ) (z : List ℕ) → Walk choice t left a walked (w ++ n ∷ z) → (n ≡ choice t left (fromOf (at t n)) (walked ++ w)) × Open t left (fromOf (at t n)) n
 walk-at choice t left a walked [] n z walk =
     let here : a ≡ fromOf (at t n) = sym (leaves-from a (at t n) (and-parts (leaves a (at t n)) (ltb 0 (getD left n 0)) (walk .1) .0)) in (
       walk .0 ∙ (ap (λ b. choice t left b walked) here ∙ ap (choice t left (fromOf (at t n))) (sym (append-nil walked))),
@@ -165,28 +38,28 @@ walk-at choice t left a walked (m ∷ w) n z walk =
     let later = walk-at choice t left (toOf (at t m)) (walked ++ m ∷ []) w n z (walk .2) in
     (later .0 ∙ ap (choice t left (fromOf (at t n))) (append-assoc walked (m ∷ []) w), later .1)
 
-pub walk-open : (choice : Choice) (t : Tally) (left : List ℕ) (a : ℕ) (d : List ℕ) (n : ℕ) → Walk choice t left a [] d → holds (n ∷ []) d ≡ true → 0 < getD left n 0
+walk-open : (choice : Choice) (t : Tally) (left : List ℕ) (a : ℕ) (d : List ℕ) (n : ℕ) → Walk choice t left a [] d → holds (n ∷ []) d ≡ true → 0 < getD left n 0
 walk-open choice t left a d n walk has =
     let p = holds-parts (n ∷ []) d has in
     let q = walk-at choice t left a [] (p .0) n (p .1) (subst (Walk choice t left a []) (p .2) walk) in
     ltb-true 0 (getD left n 0) (and-parts (leaves (fromOf (at t n)) (at t n)) (ltb 0 (getD left n 0)) (q .1) .1)
 
 -- a row leaves no line with more than it had
-pub off-less : (left : List ℕ) (k : ℕ) (d : List ℕ) (n : ℕ) → getD (off left k d) n 0 ≤ getD left n 0
+off-less : (left : List ℕ) (k : ℕ) (d : List ℕ) (n : ℕ) → getD (off left k d) n 0 ≤ getD left n 0
 off-less left k [] n = omega arith
 off-less left k (m ∷ d) n =
     let before = off-less left k d n in
     let new = getD left m 0 - k in
     ⊎-elim
     (λ same. ⊎-elim
-        (λ within. let now : getD (set (off left k d) m new) n 0 ≡ new = ap (λ j. getD (set (off left k d) m new) j 0) same ∙ getD-set-same (off left k d) m new 0 within in omega (arith, now, ap (λ j. getD left j 0) same))
-        (λ past. let now = ap (λ l. getD l n 0) (set-past (off left k d) m new past) in omega (arith, now))
-        (cases-lt m (length (off left k d))))
+    (λ within. let now : getD (set (off left k d) m new) n 0 ≡ new = ap (λ j. getD (set (off left k d) m new) j 0) same ∙ getD-set-same (off left k d) m new 0 within in omega (arith, now, ap (λ j. getD left j 0) same))
+    (λ past. let now = ap (λ l. getD l n 0) (set-past (off left k d) m new past) in omega (arith, now))
+    (cases-lt m (length (off left k d))))
     (λ differ. omega (arith, getD-set-other (off left k d) m n new 0 differ))
     (cases-eq n m)
 
 -- no row to come takes a line with nothing left
-pub none-taken : (choice : Choice) (t : Tally) (test : ℕ → Bool) (left : List ℕ) (rows : List Row) → ((n : ℕ) → test n ≡ true → getD left n 0 ≡ 0) → Divides choice t left rows → All (λ r. any test (r .chain) ≡ false) rows
+none-taken : (choice : Choice) (t : Tally) (test : ℕ → Bool) (left : List ℕ) (rows : List Row) → ((n : ℕ) → test n ≡ true → getD left n 0 ≡ 0) → Divides choice t left rows → All (λ r. any test (r .chain) ≡ false) rows
 none-taken choice t test left [] nothing divides = tt
 none-taken choice t test left (r ∷ rows) nothing divides = (
   false-unless (any test (r .chain)) (λ some.
@@ -212,10 +85,10 @@ module _ (t : Tally) (sound : All Sound t) (first : ℕ) (inner : List ℕ) (p :
   last-leaves = and-parts (leaves (runTo t (toOf (at t first)) inner) (at t p)) (runs t (toOf (at t p)) rest) (runs-append t (toOf (at t first)) inner (p ∷ rest) run-on) .0
 
   -- the lines before the line lead to the account that it leaves
-  pub front-meets : (a : ℕ) → runTo t a front ≡ between
+  front-meets : (a : ℕ) → runTo t a front ≡ between
   front-meets a = sym (leaves-from (runTo t (toOf (at t first)) inner) (at t p) last-leaves)
 
-  pub line-leaves : leaves between (at t p) ≡ true
+  line-leaves : leaves between (at t p) ≡ true
   line-leaves = leaves-own (at t p) (leaves-live (runTo t (toOf (at t first)) inner) (at t p) last-leaves)
 
   avoidingFrom-at : (left walked pre ns : List ℕ) (b : ℕ) → runs t b (ns ++ p ∷ rest) ≡ true → avoidingFrom pre (ns ++ p ∷ rest) t left between walked ≡ turn (pre ++ ns) p t left between walked
@@ -284,33 +157,42 @@ module _ (t : Tally) (sound : All Sound t) (first : ℕ) (inner : List ℕ) (p :
 
   none-strays : (rows : List Row) → All (λ r. other t p (r .chain) ≡ false) rows → total (λ r. cond (strays t front p (r .chain)) (r .tonnes) 0) rows ≡ 0
   none-strays rows none =
-      total-none (λ r. cond (strays t front p (r .chain)) (r .tonnes) 0) rows (all-weaker (λ r. other t p (r .chain) ≡ false) (λ r. cond (strays t front p (r .chain)) (r .tonnes) 0 ≡ 0) (λ r gone. cond-false (strays t front p (r .chain)) (r .tonnes) 0 (and-right (not (holds front (r .chain))) (other t p (r .chain)) gone)) rows none)
+      total-none (λ r. cond (strays t front p (r .chain)) (r .tonnes) 0) rows
+      (all-weaker (λ r. other t p (r .chain) ≡ false) (λ r. cond (strays t front p (r .chain)) (r .tonnes) 0 ≡ 0)
+      (λ r gone. cond-false (strays t front p (r .chain)) (r .tonnes) 0 (and-right (not (holds front (r .chain))) (other t p (r .chain)) gone))
+      rows none)
 
   none-goes-on : (rows : List Row) → All (λ r. any (λ n. eqb n p) (r .chain) ≡ false) rows → puts rows (front ++ p ∷ []) ≡ 0
   none-goes-on rows none =
-      total-none (λ r. cond (holds (front ++ p ∷ []) (r .chain)) (r .tonnes) 0) rows (all-weaker (λ r. any (λ n. eqb n p) (r .chain) ≡ false) (λ r. cond (holds (front ++ p ∷ []) (r .chain)) (r .tonnes) 0 ≡ 0) (λ r gone. cond-false (holds (front ++ p ∷ []) (r .chain)) (r .tonnes) 0 (false-unless (holds (front ++ p ∷ []) (r .chain)) (λ has. both-ways (any (λ n. eqb n p) (r .chain)) gone (any-from (λ n. eqb n p) p (r .chain) (eq-eqb p p refl) (holds-back front (p ∷ []) (r .chain) has))))) rows none)
+      total-none (λ r. cond (holds (front ++ p ∷ []) (r .chain)) (r .tonnes) 0) rows
+      (all-weaker (λ r. any (λ n. eqb n p) (r .chain) ≡ false) (λ r. cond (holds (front ++ p ∷ []) (r .chain)) (r .tonnes) 0 ≡ 0)
+      (λ r gone. cond-false (holds (front ++ p ∷ []) (r .chain)) (r .tonnes) 0 (unheld (r .chain) gone))
+      rows none)
+    where
+      unheld : (d : List ℕ) → any (λ n. eqb n p) d ≡ false → holds (front ++ p ∷ []) d ≡ false
+      unheld d gone = false-unless (holds (front ++ p ∷ []) d) (λ has. both-ways (any (λ n. eqb n p) d) gone (any-from (λ n. eqb n p) p d (eq-eqb p p refl) (holds-back front (p ∷ []) d has)))
 
   -- of the rows to come, none goes on with the line after the lines before it, or none strays
-  pub never-both : (left : List ℕ) (rows : List Row) → Divides rule t left rows → (puts rows (front ++ p ∷ []) ≡ 0) ⊎ (total (λ r. cond (strays t front p (r .chain)) (r .tonnes) 0) rows ≡ 0)
+  never-both : (left : List ℕ) (rows : List Row) → Divides rule t left rows → (puts rows (front ++ p ∷ []) ≡ 0) ⊎ (total (λ r. cond (strays t front p (r .chain)) (r .tonnes) 0) rows ≡ 0)
   never-both left [] divides = inl refl
   never-both left (r ∷ rows) divides =
       ⊎-elim
       (λ on. inr (none-strays (r ∷ rows) (none-taken rule t (λ n. leaves between (at t n) && not (eqb n p)) left (r ∷ rows) (others-spent left r (divides .0) on) divides)))
       (λ broken. ⊎-elim
-          (λ stray. inl (none-goes-on (r ∷ rows) (none-taken rule t (λ n. eqb n p) left (r ∷ rows) (λ n same. ap (λ k. getD left k 0) (eqb-true n p same) ∙ line-spent left r (divides .0) stray) divides)))
-          (λ tame. ⊎-elim
-              (λ none. inl (omega (arith, none, cond-false (holds (front ++ p ∷ []) (r .chain)) (r .tonnes) 0 broken)))
-              (λ none. inr (omega (arith, none, cond-false (strays t front p (r .chain)) (r .tonnes) 0 tame)))
-              (never-both (off left (r .tonnes) (r .chain)) rows (divides .1)))
-          (cases-bool (strays t front p (r .chain))))
+      (λ stray. inl (none-goes-on (r ∷ rows) (none-taken rule t (λ n. eqb n p) left (r ∷ rows) (λ n same. ap (λ k. getD left k 0) (eqb-true n p same) ∙ line-spent left r (divides .0) stray) divides)))
+      (λ tame. ⊎-elim
+      (λ none. inl (omega (arith, none, cond-false (holds (front ++ p ∷ []) (r .chain)) (r .tonnes) 0 broken)))
+      (λ none. inr (omega (arith, none, cond-false (strays t front p (r .chain)) (r .tonnes) 0 tame)))
+      (never-both (off left (r .tonnes) (r .chain)) rows (divides .1)))
+      (cases-bool (strays t front p (r .chain))))
       (cases-bool (holds (front ++ p ∷ []) (r .chain)))
 
-  pub enters-between : any (enters between) t ≡ true
+  enters-between : any (enters between) t ≡ true
   enters-between =
       let live = and-parts (isLive (at t first)) (runs t (toOf (at t first)) (inner ++ p ∷ rest)) (chain-linked t (first ∷ (inner ++ p ∷ rest)) chain) .0 in
       subst (λ a. any (enters a) t ≡ true) (front-meets 0) (entered t first inner (p ∷ rest) live run-on)
 
--- the figure of an excess that is a number of tonnes, or at most none
+-- the figure of an excess of at most 0
 positive-none : (z : ℤ) → z ≤ℤ pos 0 → positive z ≡ 0
 positive-none (pos n) low = let h : n ≤ 0 = omega (arith, ints) in omega arith
 positive-none (negsuc n) low = refl
@@ -351,7 +233,7 @@ module _ (t : Tally) (sound : All Sound t) (balanced : Balanced t) (c : List ℕ
   lines-more first inner (p ∷ rest) e is before =
       lines-more first (inner ++ p ∷ []) rest (joined t e p) (is ∙ ap (λ l. first ∷ l) (sym (append-assoc inner (p ∷ []) rest))) (line-more first inner p rest e is before)
 
-  pub puts-figure-from : (first : ℕ) (rest : List ℕ) → c ≡ first ∷ rest → puts rows c ≡ figure t (first ∷ rest)
+  puts-figure-from : (first : ℕ) (rest : List ℕ) → c ≡ first ∷ rest → puts rows c ≡ figure t (first ∷ rest)
   puts-figure-from first rest is =
       lines-more first [] rest (pos (amountOf (at t first))) is
       (split .sums first (and-parts (isLive (at t first)) (runs t (toOf (at t first)) rest) (chain-linked t (first ∷ rest) (subst (Chain t) is chain)) .0))

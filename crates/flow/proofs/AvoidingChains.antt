@@ -1,23 +1,21 @@
 -- How chains rise and pass an account, and what the rows of a split that pass it add up to. Assumes nothing.
-use mathlib.Core.Bool.{Bool, true, false, not, cond, _&&_, _||_}
+use mathlib.Core.Bool.{Bool, true, false, cond, _&&_}
 use mathlib.Core.List.{List, [], _∷_, _++_}
 use mathlib.Core.Logic.{⊎-elim}
 use mathlib.Core.Path.{_≡_, refl, sym, ap, subst, _∙_}
 use Prim.Native.Nat.{ℕ, zero, suc, _+_, _<_, _≤_}
 use native.Mathlib.Omega.{arith}
 use lib.Dec.{eqb, leb, eqb·zero-suc, eqb·suc-zero, eqb·suc-suc}
-use lib.ListN.{length, getD}
+use lib.ListN.{length}
 use Rattle.std.proofs.shelf.Elements.{all-getD}
-use Rattle.std.proofs.shelf.Lists.{append-assoc, append-nil}
-use Rattle.std.proofs.shelf.Tests.{and-parts, and-from, or-cases, or-left, or-right, eqb-true, eqb-false, eq-eqb, ne-eqb, not-true, not-from-false, both-ways, cases-bool, cases-eq, cond-true, cond-false, cond-both}
+use Rattle.std.proofs.shelf.Tests.{and-parts, and-from, or-cases, or-left, or-right, eqb-true, eq-eqb, ne-eqb, both-ways, cases-bool, cases-eq, cond-true, cond-false, cond-both}
 use Rattle.std.specs.shelf.Lists.{All}
 use Rattle.book.specs.Tally.{Tally, at, isLive, Sound}
 use Rattle.book.specs.Totals.{total, any, enters, leaves, amountOf, outTotal, figure}
 use Rattle.book.specs.declared.entries.Line.{Line}
 use Rattle.book.specs.declared.entries.Line.the-variants.{Live, Struck}
-use Rattle.book.specs.declared.table.Side.the-variants.{Out}
-use Rattle.flow.specs.Chains.{fromOf, toOf, runs, linked, start, runTo, finish, longestChain, Chain, Full}
-use Rattle.flow.specs.Splits.{Row, Split, holds, begins, puts}
+use Rattle.flow.specs.Chains.{fromOf, toOf, runs, linked, start, runTo, longestChain, Chain, Full}
+use Rattle.flow.specs.Splits.{Row, Split, holds, puts}
 use Rattle.flow.proofs.AvoidingLaw.{leaves-posted, leaves-from, leaves-live, leaves-own}
 use Rattle.flow.proofs.AvoidingSums.{false-unless, any-found, any-from}
 
@@ -88,20 +86,20 @@ module _ (t : Tally) (sound : All Sound t) where
       let out = leaves-from a (at t k) (p .0) in
       ⊎-elim
       (λ m-here. ⊎-elim
-          (λ n-here. omega (arith, is m m-here, is n n-here))
-          (λ n-later. let e = ap (λ j. fromOf (at t j)) (is m m-here) in absurd (omega (arith, e, same, runs-rise (toOf (at t k)) d n (p .1) n-later)))
-          (or-cases (eqb n k && true) (holds (n ∷ []) d) has-n))
+      (λ n-here. omega (arith, is m m-here, is n n-here))
+      (λ n-later. let e = ap (λ j. fromOf (at t j)) (is m m-here) in absurd (omega (arith, e, same, runs-rise (toOf (at t k)) d n (p .1) n-later)))
+      (or-cases (eqb n k && true) (holds (n ∷ []) d) has-n))
       (λ m-later. ⊎-elim
-          (λ n-here. let e = ap (λ j. fromOf (at t j)) (is n n-here) in absurd (omega (arith, e, same, runs-rise (toOf (at t k)) d m (p .1) m-later)))
-          (λ n-later. runs-single (toOf (at t k)) d m n (p .1) m-later n-later same)
-          (or-cases (eqb n k && true) (holds (n ∷ []) d) has-n))
+      (λ n-here. let e = ap (λ j. fromOf (at t j)) (is n n-here) in absurd (omega (arith, e, same, runs-rise (toOf (at t k)) d m (p .1) m-later)))
+      (λ n-later. runs-single (toOf (at t k)) d m n (p .1) m-later n-later same)
+      (or-cases (eqb n k && true) (holds (n ∷ []) d) has-n))
       (or-cases (eqb m k && true) (holds (m ∷ []) d) has-m)
     where
       is : (j : ℕ) → (eqb j k && true) ≡ true → j ≡ k
       is j h = eqb-true j k (and-parts (eqb j k) true h .0)
 
 -- the sum of a figure by line number over the lines that leave an account
-abbrev pub outOf : ℕ → (ℕ → ℕ) → Tally → ℕ
+abbrev outOf : ℕ → (ℕ → ℕ) → Tally → ℕ
 outOf u f [] = 0
 outOf u f (l ∷ t) = cond (leaves u l) (f 0) 0 + outOf u (λ n. f (suc n)) t
 
@@ -154,13 +152,17 @@ module _ (t : Tally) (sound : All Sound t) (u : ℕ) where
       run : runs t (start t d) d ≡ true
       run = linked-runs t d (chain-linked t d chain)
 
+      single : (m n : ℕ) → leaves u (at t m) ≡ true → leaves u (at t n) ≡ true → holds (m ∷ []) d ≡ true → holds (n ∷ []) d ≡ eqb n m
+      single m n out-m out-n has =
+          ⊎-elim
+          (λ same. subst (λ k. holds (k ∷ []) d ≡ true) (sym same) has ∙ sym (eq-eqb n m same))
+          (λ differ. false-unless (holds (n ∷ []) d) (λ has-n. differ (runs-single t sound (start t d) d n m run has-n has (leaves-from u (at t n) out-n ∙ sym (leaves-from u (at t m) out-m)))) ∙ sym (ne-eqb n m differ))
+          (cases-eq n m)
+
       passing : passes t u d ≡ true → outOf u (λ n. cond (holds (n ∷ []) d) k 0) t ≡ cond (passes t u d) k 0
       passing some =
           let found = any-found (λ n. leaves u (at t n)) d some in
-          outOf-same u (λ n. cond (holds (n ∷ []) d) k 0) (λ n. cond (eqb n (found .0)) k 0) t (λ n out. ⊎-elim
-              (λ same. cond-true (holds (n ∷ []) d) k 0 (subst (λ m. holds (m ∷ []) d ≡ true) (sym same) (found .2)) ∙ sym (cond-true (eqb n (found .0)) k 0 (eq-eqb n (found .0) same)))
-              (λ differ. cond-false (holds (n ∷ []) d) k 0 (false-unless (holds (n ∷ []) d) (λ has. differ (runs-single t sound (start t d) d n (found .0) run has (found .2) (leaves-from u (at t n) out ∙ sym (leaves-from u (at t (found .0)) (found .1)))))) ∙ sym (cond-false (eqb n (found .0)) k 0 (ne-eqb n (found .0) differ)))
-              (cases-eq n (found .0)))
+          outOf-same u (λ n. cond (holds (n ∷ []) d) k 0) (λ n. cond (eqb n (found .0)) k 0) t (λ n out. ap (λ b. cond b k 0) (single (found .0) n (found .1) out (found .2)))
           ∙ (outOf-one u t (found .0) k (found .1) ∙ sym (cond-true (passes t u d) k 0 some))
 
       missing : passes t u d ≡ false → outOf u (λ n. cond (holds (n ∷ []) d) k 0) t ≡ cond (passes t u d) k 0

@@ -3,14 +3,13 @@ use mathlib.Core.Bool.{Bool, true, false, not, cond, _&&_}
 use mathlib.Core.List.{List, [], _∷_, _++_}
 use mathlib.Core.Logic.{⊎-elim, _⊎_, inl, inr}
 use mathlib.Core.Path.{_≡_, refl, sym, ap, subst, _∙_}
-use Prim.Native.Nat.{ℕ, zero, suc, _+_, _-_, _<_, _≤_}
+use Prim.Native.Nat.{ℕ, zero, suc, _+_, _<_, _≤_}
 use native.Mathlib.Omega.{arith}
 use lib.Dec.{eqb, ltb, leb}
 use lib.ListN.{length, getD}
 use Rattle.std.proofs.shelf.Lists.{getD-past}
-use Rattle.std.proofs.shelf.Tests.{and-parts, and-from, and-cases, eqb-true, eq-eqb, ne-eqb, not-true, not-from-false, not-from-true, not-false, both-ways, cases-bool, cases-lt, cond-true, cond-false, cond-both}
-use Rattle.book.specs.Limits.{mostLines}
-use Rattle.book.specs.Tally.{Tally, at, isLive, WellFormed}
+use Rattle.std.proofs.shelf.Tests.{and-parts, and-from, and-cases, eqb-true, eq-eqb, not-false, both-ways, cases-bool, cases-lt, cond-true, cond-false, cond-both}
+use Rattle.book.specs.Tally.{Tally, at, isLive}
 use Rattle.book.specs.Totals.{leaves}
 use Rattle.book.specs.declared.entries.Line.{Line}
 use Rattle.book.specs.declared.entries.Line.the-variants.{Live, Struck}

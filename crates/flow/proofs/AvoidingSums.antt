@@ -1,14 +1,14 @@
 -- Lemmas on sums over rows and on lists that hold, begin with or end with others. Assumes nothing.
-use mathlib.Core.Bool.{Bool, true, false, cond, _&&_, _||_}
+use mathlib.Core.Bool.{Bool, true, false, _&&_}
 use mathlib.Core.List.{List, [], _∷_, _++_}
 use mathlib.Core.Logic.{⊎-elim}
 use mathlib.Core.Path.{_≡_, refl, sym, ap, subst, _∙_}
-use Prim.Native.Nat.{ℕ, zero, suc, _+_, _-_, _<_, _≤_}
+use Prim.Native.Nat.{ℕ, _-_}
 use native.Mathlib.Omega.{arith}
 use lib.Dec.{eqb}
 use lib.ListN.{length, drop, take}
 use Rattle.std.proofs.shelf.Fronts.{end-rest}
-use Rattle.std.proofs.shelf.Lists.{append-assoc, append-nil, take-append-drop}
+use Rattle.std.proofs.shelf.Lists.{append-assoc, take-append-drop}
 use Rattle.std.proofs.shelf.Tests.{and-parts, and-from, or-cases, or-left, or-right, eqb-true, eq-eqb, both-ways}
 use Rattle.std.specs.shelf.Lists.{All}
 use Rattle.book.specs.Totals.{total, any}
@@ -19,21 +19,13 @@ pub false-unless : (b : Bool) → (b ≡ true → ⊥) → b ≡ false
 false-unless true never = absurd (never refl)
 false-unless false never = refl
 
--- what adds up the same for each element adds up the same in all
-pub total-same : {X : Type 0} (f g : X → ℕ) (xs : List X) → All (λ x. f x ≡ g x) xs → total f xs ≡ total g xs
-total-same f g [] same = refl
-total-same f g (x ∷ xs) same = omega (arith, same .0, total-same f g xs (same .1))
-
-pub total-sum : {X : Type 0} (f g : X → ℕ) (xs : List X) → total (λ x. f x + g x) xs ≡ total f xs + total g xs
-total-sum f g [] = refl
-total-sum f g (x ∷ xs) = omega (arith, total-sum f g xs)
-
+-- what adds nothing for each element adds up to nothing
 pub total-none : {X : Type 0} (f : X → ℕ) (xs : List X) → All (λ x. f x ≡ 0) xs → total f xs ≡ 0
 total-none f [] none = refl
 total-none f (x ∷ xs) none = omega (arith, none .0, total-none f xs (none .1))
 
 -- a list that begins with another, and one that holds another, by its parts
-pub begins-parts : (c d : List ℕ) → begins c d ≡ true → (z : List ℕ) × (d ≡ c ++ z)
+begins-parts : (c d : List ℕ) → begins c d ≡ true → (z : List ℕ) × (d ≡ c ++ z)
 begins-parts [] d h = (d, refl)
 begins-parts (m ∷ c) [] h = absurd (both-ways false refl h)
 begins-parts (m ∷ c) (n ∷ d) h =
@@ -43,7 +35,7 @@ begins-parts (m ∷ c) (n ∷ d) h =
       ap (λ k. k ∷ d) (sym (eqb-true m n (p .0))) ∙ ap (λ l. m ∷ l) (q .1),
     )
 
-pub begins-with : (c z : List ℕ) → begins c (c ++ z) ≡ true
+begins-with : (c z : List ℕ) → begins c (c ++ z) ≡ true
 begins-with [] z = refl
 begins-with (m ∷ c) z = and-from (eqb m m) (begins c (c ++ z)) (eq-eqb m m refl) (begins-with c z)
 
@@ -92,7 +84,7 @@ any-from p n (m ∷ d) here h =
     (or-cases (eqb n m && true) (holds (n ∷ []) d) h)
 
 -- a walk that ends with given lines, by its parts
-pub sameList-is : (c d : List ℕ) → sameList c d ≡ true → c ≡ d
+sameList-is : (c d : List ℕ) → sameList c d ≡ true → c ≡ d
 sameList-is [] [] h = refl
 sameList-is [] (n ∷ d) h = absurd (both-ways false refl h)
 sameList-is (m ∷ c) [] h = absurd (both-ways false refl h)
@@ -100,7 +92,7 @@ sameList-is (m ∷ c) (n ∷ d) h =
     let p = and-parts (eqb m n) (sameList c d) h in
     ap (λ k. k ∷ c) (eqb-true m n (p .0)) ∙ ap (λ l. n ∷ l) (sameList-is c d (p .1))
 
-pub sameList-self : (c : List ℕ) → sameList c c ≡ true
+sameList-self : (c : List ℕ) → sameList c c ≡ true
 sameList-self [] = refl
 sameList-self (m ∷ c) = and-from (eqb m m) (sameList c c) (eq-eqb m m refl) (sameList-self c)
 

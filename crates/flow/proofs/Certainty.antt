@@ -1,4 +1,4 @@
--- A chain is certain at a floor exactly when its excess is that or more, and its figure is the least that any split puts on it. Assumes nothing.
+-- A chain is certain at a floor exactly when its excess is that or more, and its figure is the least that any split puts on it. Assumes Dividing-is-split and Split-puts-excess, as hypotheses.
 use mathlib.Core.List.{List}
 use mathlib.Core.Path.{_≡_}
 use Prim.Native.Nat.{ℕ, _<_, _≤_}
