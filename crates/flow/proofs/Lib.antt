@@ -14,3 +14,9 @@ pub mod Order
 pub mod ListingInfix
 pub mod AllChains
 pub mod Listed
+pub mod AvoidingSums
+pub mod AvoidingLaw
+pub mod AvoidingChains
+pub mod AvoidingRows
+pub mod Avoiding
+pub mod Certainty
