@@ -1,4 +1,4 @@
--- The split that the avoiding rule makes puts exactly the certain figure on its chain. Assumes Dividing-is-split, as a hypothesis.
+-- The split that the avoiding rule makes puts exactly the certain figure on its chain. Assumes nothing.
 use mathlib.Core.Bool.{Bool, true, false, not, cond, _&&_}
 use mathlib.Core.List.{List, [], _∷_, _++_}
 use mathlib.Core.Logic.{⊎-elim, _⊎_, inl, inr}
@@ -19,12 +19,13 @@ use Rattle.book.specs.Totals.{total, any, enters, leaves, amountOf, inTotal, Ba
 use Rattle.flow.specs.Chains.{fromOf, toOf, runs, isChain, runTo, Chain}
 use Rattle.flow.specs.Dividing.{amounts, Walk, IsRow, off, Divides, Dividing}
 use Rattle.flow.specs.Excess.{joined, excessOn, excess, positive, figure}
-use Rattle.flow.specs.Promises.{Dividing-is-split, Avoiding-reaches-figure}
+use Rattle.flow.specs.Promises.{Avoiding-reaches-figure}
 use Rattle.flow.specs.Rules.{Choice, Open, isOpen, lowestOf, lowest, turn, endsWith, avoidingFrom, avoiding}
 use Rattle.flow.specs.Splits.{Row, Split, holds, puts}
 use Rattle.flow.proofs.AvoidingChains.{runs-append, chain-linked, leaves-up, runs-rise, any-at, entered, amount-within}
 use Rattle.flow.proofs.AvoidingLaw.{lowestOf-finds, leaves-posted, leaves-from, leaves-live, leaves-own, law-avoiding}
 use Rattle.flow.proofs.AvoidingRows.{other, strays, other-passes, rows-add}
+use Rattle.flow.proofs.Divided.{dividing-split}
 use Rattle.flow.proofs.AvoidingSums.{false-unless, total-none, holds-parts, holds-within, holds-back, any-found, any-from, endsWith-end, endsWith-parts}
 
 -- a walk takes open lines, each the one that its rule names
@@ -238,16 +239,10 @@ module _ (t : Tally) (sound : All Sound t) (balanced : Balanced t) (c : List ℕ
       lines-more first [] rest (pos (amountOf (at t first))) is
       (split .sums first (and-parts (isLive (at t first)) (runs t (toOf (at t first)) rest) (chain-linked t (first ∷ rest) (subst (Chain t) is chain)) .0))
 
-module _ (dividing-is-split : Dividing-is-split) where
-  pub avoiding-split : (c : List ℕ) (t : Tally) (rows : List Row) → WellFormed t → Balanced t → Dividing (avoiding c) t rows → Split t rows
-  avoiding-split c t rows well balanced dividing =
-      let divided = dividing-is-split (avoiding c) t (law-avoiding c) well balanced in
-      subst (Split t) (sym (divided .1 .alone rows dividing)) (divided .1 .split)
+pub avoiding-puts-figure : (c : List ℕ) (t : Tally) (rows : List Row) → WellFormed t → Balanced t → Chain t c → Dividing (avoiding c) t rows → puts rows c ≡ figure t c
+avoiding-puts-figure [] t rows well balanced chain dividing = absurd (both-ways false refl chain)
+avoiding-puts-figure (first ∷ rest) t rows well balanced chain dividing =
+    puts-figure-from t (well .1) balanced (first ∷ rest) chain rows dividing (dividing-split (avoiding (first ∷ rest)) t rows well dividing) first rest refl
 
-  pub avoiding-puts-figure : (c : List ℕ) (t : Tally) (rows : List Row) → WellFormed t → Balanced t → Chain t c → Dividing (avoiding c) t rows → puts rows c ≡ figure t c
-  avoiding-puts-figure [] t rows well balanced chain dividing = absurd (both-ways false refl chain)
-  avoiding-puts-figure (first ∷ rest) t rows well balanced chain dividing =
-      puts-figure-from t (well .1) balanced (first ∷ rest) chain rows dividing (avoiding-split (first ∷ rest) t rows well balanced dividing) first rest refl
-
-  pub avoiding-reaches-figure : Avoiding-reaches-figure
-  avoiding-reaches-figure c = (law-avoiding c, avoiding-puts-figure c)
+pub avoiding-reaches-figure : Avoiding-reaches-figure
+avoiding-reaches-figure c = (law-avoiding c, avoiding-puts-figure c)

@@ -25,10 +25,12 @@ use Rattle.book.specs.Totals.{Balanced}
 use Rattle.flow.specs.Chains.{Chain, isChain, longestChain}
 use Rattle.flow.specs.Excess.{excess}
 use Rattle.flow.specs.Listing.{Before, FirstAfter, NoneAfter, Listing}
-use Rattle.flow.specs.Promises.{Certain-iff-excess, Part-certain, Alone, Greatest-by-one-line, Listed, List-is-complete}
+use Rattle.flow.specs.Promises.{Alone, Greatest-by-one-line, Listed, List-is-complete}
 use Rattle.flow.specs.Splits.{begins, holds, Certain, Greatest}
 use Rattle.flow.proofs.AllChains.{has-cases, has-none, has-kept, Sorted, sorted-ascends, sorted-kept, lists, sorted-lists, has-lists}
+use Rattle.flow.proofs.Certainty.{certain-iff-excess}
 use Rattle.flow.proofs.ListingInfix.{begins-held, held-after, held-before, part-grows-left, front-grows-right, chain-part, chain-short, chain-within, last-within}
+use Rattle.flow.proofs.Parts.{part-certain}
 use Rattle.flow.proofs.Order.{before-transitive, before-asymmetric, before-not-same, compare-before, cases-before}
 
 pub greatest-alone : (t : Tally) (w : ℕ) (c : List ℕ) → Greatest t w c → Alone t w c
@@ -143,101 +145,100 @@ chain-after-none : (t : Tally) (c : List ℕ) → Chain t c → Before [] c
 chain-after-none t [] chain = both-ways false refl chain
 chain-after-none t (n ∷ c) chain = tt
 
-module _ (certain-iff-excess : Certain-iff-excess) (part-certain : Part-certain) where
-  pub alone-greatest : (t : Tally) (w : ℕ) (c : List ℕ) → Chain t c → Alone t w c → Greatest t w c
-  alone-greatest t w c chain a = record {
-    chain = chain;
-    certain = a .certain;
-    alone = λ d chain-d held longer certain-d.
-        ⊎-elim
-        (λ front. grows-right d chain-d certain-d (front-grows-right c d front longer))
-        (grows-left d chain-d certain-d)
-        (part-grows-left c d held);
+pub alone-greatest : (t : Tally) (w : ℕ) (c : List ℕ) → Chain t c → Alone t w c → Greatest t w c
+alone-greatest t w c chain a = record {
+  chain = chain;
+  certain = a .certain;
+  alone = λ d chain-d held longer certain-d.
+      ⊎-elim
+      (λ front. grows-right d chain-d certain-d (front-grows-right c d front longer))
+      (grows-left d chain-d certain-d)
+      (part-grows-left c d held);
+}
+  where
+    grows-left : (d : List ℕ) → Chain t d → Certain t w d → (m : ℕ) × (holds (m ∷ c) d ≡ true) → ⊥
+    grows-left d chain-d certain-d (m, held) =
+        let longer : Chain t (m ∷ c) = chain-part t (m ∷ c) d (omega arith) chain-d held in
+        a .left m longer (part-certain t w (m ∷ c) d longer certain-d held)
+
+    grows-right : (d : List ℕ) → Chain t d → Certain t w d → (m : ℕ) × (begins (c ++ m ∷ []) d ≡ true) → ⊥
+    grows-right d chain-d certain-d (m, front) =
+        let held : holds (c ++ m ∷ []) d ≡ true = begins-held (c ++ m ∷ []) d front in
+        let longer : Chain t (c ++ m ∷ []) = chain-part t (c ++ m ∷ []) d (omega (arith, length-push c m)) chain-d held in
+        a .right m longer (part-certain t w (c ++ m ∷ []) d longer certain-d held)
+
+pub by-one-line : Greatest-by-one-line
+by-one-line t w c formed balanced some chain = (greatest-alone t w c, alone-greatest t w c chain)
+
+module _ (t : Tally) (w : ℕ) (formed : WellFormed t) (balanced : Balanced t) (some : 0 < w) where
+  pub certain-decided : (c : List ℕ) → Chain t c → Decides (leZ (pos w) (excess t c)) (Certain t w c)
+  certain-decided c chain =
+      let iff = certain-iff-excess t w c formed balanced chain some in
+      decides-like (leZ (pos w) (excess t c)) (iff .1) (iff .0) (decides-leZ (pos w) (excess t c))
+
+  pub certain-chain-decided : (c : List ℕ) → Decides (isCertain t w c) (Chain t c × Certain t w c)
+  certain-chain-decided c = (
+    (λ h.
+        let p = and-parts (isChain t c) (leZ (pos w) (excess t c)) h in
+        (p .0, certain-decided c (p .0) .0 (p .1))),
+    (λ h. and-from (isChain t c) (leZ (pos w) (excess t c)) (h .0) (certain-decided c (h .0) .1 (h .1))),
+  )
+
+  -- for every line, since one past the end of the tally is in no chain
+  none-certain-decided : (longer : ℕ → List ℕ) → ((n : ℕ) → Chain t (longer n) → n < length t) → Decides (noneCertain t w longer) ((n : ℕ) → Chain t (longer n) → Certain t w (longer n) → ⊥)
+  none-certain-decided longer within =
+      decides-like (noneCertain t w longer)
+      (λ below n chain certain. below n (within n chain) (chain, certain))
+      (λ none n h both. none n (both .0) (both .1))
+      (decides-none-below (λ n. isCertain t w (longer n)) (λ n. Chain t (longer n) × Certain t w (longer n)) (λ n. certain-chain-decided (longer n)) (length t))
+
+  pub greatest-decided : (c : List ℕ) → Decides (isGreatest t w c) (Greatest t w c)
+  greatest-decided c =
+      let noLeft : Bool = noneCertain t w (λ n. n ∷ c) in
+      let noRight : Bool = noneCertain t w (λ n. c ++ n ∷ []) in
+      let left = none-certain-decided (λ n. n ∷ c) (λ n chain. chain-within t (n ∷ c) chain .0) in
+      let right = none-certain-decided (λ n. c ++ n ∷ []) (λ n chain. last-within t c n chain) in
+      decides-like (isGreatest t w c)
+      (λ h. alone-greatest t w c (h .0 .0) (record { certain = h .0 .1; left = h .1 .0; right = h .1 .1 }))
+      (λ g. let a = greatest-alone t w c g in ((g .chain, g .certain), (a .left, a .right)))
+      (decides-and (isCertain t w c) (noLeft && noRight) (certain-chain-decided c) (decides-and noLeft noRight left right))
+
+  greatest-has : (c : List ℕ) → Greatest t w c → Has (greatestList t w) c
+  unfolding greatestList
+  greatest-has c g =
+      has-kept (isGreatest t w) (lists longestChain (length t)) c
+      (has-lists longestChain (length t) c (chain-short t c (g .chain)) (chain-within t c (g .chain)))
+      (greatest-decided c .1 g)
+
+  greatest-only : All (Greatest t w) (greatestList t w)
+  unfolding greatestList
+  greatest-only =
+      all-weaker (λ c. isGreatest t w c ≡ true) (Greatest t w) (λ c. greatest-decided c .0)
+      (greatestList t w) (kept-by-passes (isGreatest t w) (lists longestChain (length t)))
+
+  greatest-rest : (given : List ℕ) → Rest t w given (greatestList t w)
+  greatest-rest given = record {
+    sorted = sorted-greatest t w;
+    only = greatest-only;
+    every = λ d greatest after. greatest-has d greatest;
   }
-    where
-      grows-left : (d : List ℕ) → Chain t d → Certain t w d → (m : ℕ) × (holds (m ∷ c) d ≡ true) → ⊥
-      grows-left d chain-d certain-d (m, held) =
-          let longer : Chain t (m ∷ c) = chain-part t (m ∷ c) d (omega arith) chain-d held in
-          a .left m longer (part-certain t w (m ∷ c) d longer certain-d held)
 
-      grows-right : (d : List ℕ) → Chain t d → Certain t w d → (m : ℕ) × (begins (c ++ m ∷ []) d ≡ true) → ⊥
-      grows-right d chain-d certain-d (m, front) =
-          let held : holds (c ++ m ∷ []) d ≡ true = begins-held (c ++ m ∷ []) d front in
-          let longer : Chain t (c ++ m ∷ []) = chain-part t (c ++ m ∷ []) d (omega (arith, length-push c m)) chain-d held in
-          a .right m longer (part-certain t w (c ++ m ∷ []) d longer certain-d held)
+  pub first-after-decided : (given : List ℕ) → ((c : List ℕ) × FirstAfter t w given c) ⊎ NoneAfter t w given
+  first-after-decided given = rest-decided t w given (greatestList t w) (greatest-rest given)
 
-  pub by-one-line : Greatest-by-one-line
-  by-one-line t w c formed balanced some chain = (greatest-alone t w c, alone-greatest t w c chain)
+  after-none : All (Before []) (greatestList t w)
+  after-none = all-weaker (Greatest t w) (Before []) (λ c g. chain-after-none t c (g .chain)) (greatestList t w) greatest-only
 
-  module _ (t : Tally) (w : ℕ) (formed : WellFormed t) (balanced : Balanced t) (some : 0 < w) where
-    pub certain-decided : (c : List ℕ) → Chain t c → Decides (leZ (pos w) (excess t c)) (Certain t w c)
-    certain-decided c chain =
-        let iff = certain-iff-excess t w c formed balanced chain some in
-        decides-like (leZ (pos w) (excess t c)) (iff .1) (iff .0) (decides-leZ (pos w) (excess t c))
+  pub greatest-listed : Listed t w (greatestList t w)
+  greatest-listed =
+      let listing = rest-listing t w [] (greatestList t w) after-none (greatest-rest []) in
+      record {
+        listing = listing;
+        alone = λ others l. listing-same t w [] (greatestList t w) others listing l;
+        ascends = sorted-ascends [] (greatestList t w) after-none (sorted-greatest t w);
+        every = greatest-has;
+        only = λ c h. all-has (Greatest t w) (greatestList t w) c greatest-only h;
+      }
 
-    pub certain-chain-decided : (c : List ℕ) → Decides (isCertain t w c) (Chain t c × Certain t w c)
-    certain-chain-decided c = (
-      (λ h.
-          let p = and-parts (isChain t c) (leZ (pos w) (excess t c)) h in
-          (p .0, certain-decided c (p .0) .0 (p .1))),
-      (λ h. and-from (isChain t c) (leZ (pos w) (excess t c)) (h .0) (certain-decided c (h .0) .1 (h .1))),
-    )
-
-    -- for every line, since one past the end of the tally is in no chain
-    none-certain-decided : (longer : ℕ → List ℕ) → ((n : ℕ) → Chain t (longer n) → n < length t) → Decides (noneCertain t w longer) ((n : ℕ) → Chain t (longer n) → Certain t w (longer n) → ⊥)
-    none-certain-decided longer within =
-        decides-like (noneCertain t w longer)
-        (λ below n chain certain. below n (within n chain) (chain, certain))
-        (λ none n h both. none n (both .0) (both .1))
-        (decides-none-below (λ n. isCertain t w (longer n)) (λ n. Chain t (longer n) × Certain t w (longer n)) (λ n. certain-chain-decided (longer n)) (length t))
-
-    pub greatest-decided : (c : List ℕ) → Decides (isGreatest t w c) (Greatest t w c)
-    greatest-decided c =
-        let noLeft : Bool = noneCertain t w (λ n. n ∷ c) in
-        let noRight : Bool = noneCertain t w (λ n. c ++ n ∷ []) in
-        let left = none-certain-decided (λ n. n ∷ c) (λ n chain. chain-within t (n ∷ c) chain .0) in
-        let right = none-certain-decided (λ n. c ++ n ∷ []) (λ n chain. last-within t c n chain) in
-        decides-like (isGreatest t w c)
-        (λ h. alone-greatest t w c (h .0 .0) (record { certain = h .0 .1; left = h .1 .0; right = h .1 .1 }))
-        (λ g. let a = greatest-alone t w c g in ((g .chain, g .certain), (a .left, a .right)))
-        (decides-and (isCertain t w c) (noLeft && noRight) (certain-chain-decided c) (decides-and noLeft noRight left right))
-
-    greatest-has : (c : List ℕ) → Greatest t w c → Has (greatestList t w) c
-    unfolding greatestList
-    greatest-has c g =
-        has-kept (isGreatest t w) (lists longestChain (length t)) c
-        (has-lists longestChain (length t) c (chain-short t c (g .chain)) (chain-within t c (g .chain)))
-        (greatest-decided c .1 g)
-
-    greatest-only : All (Greatest t w) (greatestList t w)
-    unfolding greatestList
-    greatest-only =
-        all-weaker (λ c. isGreatest t w c ≡ true) (Greatest t w) (λ c. greatest-decided c .0)
-        (greatestList t w) (kept-by-passes (isGreatest t w) (lists longestChain (length t)))
-
-    greatest-rest : (given : List ℕ) → Rest t w given (greatestList t w)
-    greatest-rest given = record {
-      sorted = sorted-greatest t w;
-      only = greatest-only;
-      every = λ d greatest after. greatest-has d greatest;
-    }
-
-    pub first-after-decided : (given : List ℕ) → ((c : List ℕ) × FirstAfter t w given c) ⊎ NoneAfter t w given
-    first-after-decided given = rest-decided t w given (greatestList t w) (greatest-rest given)
-
-    after-none : All (Before []) (greatestList t w)
-    after-none = all-weaker (Greatest t w) (Before []) (λ c g. chain-after-none t c (g .chain)) (greatestList t w) greatest-only
-
-    pub greatest-listed : Listed t w (greatestList t w)
-    greatest-listed =
-        let listing = rest-listing t w [] (greatestList t w) after-none (greatest-rest []) in
-        record {
-          listing = listing;
-          alone = λ others l. listing-same t w [] (greatestList t w) others listing l;
-          ascends = sorted-ascends [] (greatestList t w) after-none (sorted-greatest t w);
-          every = greatest-has;
-          only = λ c h. all-has (Greatest t w) (greatestList t w) c greatest-only h;
-        }
-
-  pub list-complete : List-is-complete
-  list-complete t w formed balanced some = (greatestList t w, greatest-listed t w formed balanced some)
+pub list-complete : List-is-complete
+list-complete t w formed balanced some = (greatestList t w, greatest-listed t w formed balanced some)
