@@ -13,8 +13,8 @@ use Rattle.flow.specs.Excess.{excess, positive, figure}
 use Rattle.flow.specs.Promises.{Certain-iff-excess, Figure-is-least}
 use Rattle.flow.specs.Rules.{avoiding}
 use Rattle.flow.specs.Splits.{Row, Split, puts}
-use Rattle.flow.proofs.Avoiding.{avoiding-puts-figure}
-use Rattle.flow.proofs.AvoidingLaw.{law-avoiding}
+use Rattle.flow.proofs.Avoiding.{avoiding-reaches-figure}
+use Rattle.flow.proofs.RuleLaws.{law-avoiding}
 use Rattle.flow.proofs.Divided.{dividing-is-split}
 use Rattle.flow.proofs.SplitExcess.{split-puts-excess}
 
@@ -31,7 +31,7 @@ figure-under (negsuc m) n under = omega arith
 pub figure-reached : (t : Tally) (c : List ℕ) → WellFormed t → Balanced t → Chain t c → (s : List Row) × Split t s × (puts s c ≡ figure t c)
 figure-reached t c well balanced chain =
     let divided = dividing-is-split (avoiding c) t (law-avoiding c) well balanced in
-    (divided .0, divided .1 .split, avoiding-puts-figure c t (divided .0) well balanced chain (divided .1 .dividing))
+    (divided .0, divided .1 .split, avoiding-reaches-figure c .1 t (divided .0) well balanced chain (divided .1 .dividing))
 
 pub certain-iff-excess : Certain-iff-excess
 certain-iff-excess t w c well balanced chain some = (

@@ -1,5 +1,5 @@
 -- Under every lawful rule a balanced book has exactly one dividing, and it is a split with at most one row for each live line. Assumes nothing.
---   of any row:       row-runs, row-ends, row-open, row-live, row-bears, row-full, row-some, row-reaches, row-off, row-lessens, row-even, row-weighs
+--   of any row:       row-runs, row-open, row-bears, row-full, row-some, row-reaches, row-off, row-lessens, row-leaves, row-enters
 --   of any dividing:  divides-puts, divides-full, divides-some, divides-few, divides-alone
 --   of fair tonnes:   fair-after, next-row, divides-from, fair-amounts
 use mathlib.Core.Bool.{Bool, true, false, not, cond, _&&_}
@@ -8,30 +8,32 @@ use mathlib.Core.Logic.{⊎-elim}
 use mathlib.Core.Path.{_≡_, refl, sym, ap, subst, _∙_}
 use Prim.Native.Nat.{ℕ, zero, suc, _+_, _-_, _<_, _≤_}
 use native.Mathlib.Omega.{arith}
-use lib.Dec.{eqb, ltb}
+use lib.Dec.{ltb}
 use lib.ListN.{length, getD, replicate}
 use Rattle.std.specs.shelf.Lists.{All}
 use Rattle.std.proofs.shelf.Lists.{length-append, length-map, length-replicate}
-use Rattle.std.proofs.shelf.Tests.{cases-bool, cases-order, both-ways, and-parts, and-from, cond-true, cond-false, ne-eqb, ltb-true, lt-ltb, not-true, not-from-false}
+use Rattle.std.proofs.shelf.Tests.{cases-bool, cases-order, both-ways, and-parts, and-from, cond-true, ltb-true, lt-ltb, not-true, not-from-false}
 use Rattle.book.specs.Limits.{mostLines, accounts}
 use Rattle.book.specs.Tally.{Tally, at, isLive, WellFormed}
-use Rattle.book.specs.Totals.{total, any, enters, leaves, Enters, Leaves, amountOf, Balanced}
+use Rattle.book.specs.Totals.{any, enters, leaves, amountOf, Balanced}
 use Rattle.book.specs.declared.entries.Line.{Line}
 use Rattle.book.specs.declared.entries.Line.the-variants.{Live, Struck}
-use Rattle.flow.specs.Chains.{fromOf, runs, runTo, Origin, Full}
+use Rattle.flow.specs.Chains.{fromOf, runs, Origin, Full}
 use Rattle.flow.specs.Dividing.{amounts, Walk, leastLeft, IsRow, off, Divides, Dividing}
 use Rattle.flow.specs.Promises.{Dividing-is-split}
 use Rattle.flow.specs.Rules.{Choice, Law, Open, lowest}
 use Rattle.flow.specs.Splits.{Row, Split, puts, holds}
-use Rattle.flow.proofs.DividingSums.{lowest-such, weigh, weigh-at, weigh-amounts, getD-amounts, nothing-or-some, openCount, openCount-lt, openCount-amounts, least-le, least-some, least-reached, Bears, bears-from, length-off, off-at, weigh-off}
+use Rattle.flow.proofs.ChainFacts.{leavesBy, entersBy, leaves-once, enters-once, full-crosses, runs-apart, runs-full}
 use Rattle.flow.proofs.RuleLaws.{law-lowest, open-leaves, open-some}
-use Rattle.flow.proofs.Walks.{Fair, runs-even, runs-live, runs-apart, runs-full, walk-runs, walk-ends, walk-some, walk-alone, open-out, walk-from, open-origin}
+use Rattle.flow.proofs.Sums.{lowest-such}
+use Rattle.flow.proofs.TonnesLeft.{weigh, weigh-at, weigh-amounts, getD-amounts, nothing-or-some, openCount, openCount-lt, openCount-amounts, least-le, least-some, least-reached, Bears, bears-from, length-off, off-at, weigh-off}
+use Rattle.flow.proofs.Walks.{Fair, walk-runs, walk-ends, walk-some, walk-alone, open-out, walk-from, open-origin}
 
 -- a walk from an origin has a line
 module _ (choice : Choice) (t : Tally) (left : List ℕ) (a : ℕ) (origin : Origin t a) where
   pub walk-full : (c : List ℕ) → WellFormed t → Walk choice t left a [] c → Full t c
   walk-full [] formed w = absurd (both-ways (any (leaves a) t) w (origin .left))
-  walk-full (n ∷ ns) formed w = runs-full t formed a n ns (walk-runs choice t left a [] (n ∷ ns) w) origin (walk-ends choice t left a [] (n ∷ ns) w)
+  walk-full (n ∷ ns) formed w = runs-full t (formed .1) a n ns (walk-runs choice t left a [] (n ∷ ns) w) origin (walk-ends choice t left a [] (n ∷ ns) w)
 
   pub walk-least : (c : List ℕ) → Walk choice t left a [] c → 0 < leastLeft left c
   walk-least [] w = absurd (both-ways (any (leaves a) t) w (origin .left))
@@ -46,14 +48,8 @@ module _ (choice : Choice) (t : Tally) (left : List ℕ) (row : Row) (is : IsRow
   pub row-runs : runs t (is .account) (row .chain) ≡ true
   row-runs = walk-runs choice t left (is .account) [] (row .chain) (is .walk)
 
-  pub row-ends : any (leaves (runTo t (is .account) (row .chain))) t ≡ false
-  row-ends = walk-ends choice t left (is .account) [] (row .chain) (is .walk)
-
   pub row-open : All (λ n. 0 < getD left n 0) (row .chain)
   row-open = walk-some choice t left (is .account) [] (row .chain) (is .walk)
-
-  pub row-live : All (λ n. isLive (at t n) ≡ true) (row .chain)
-  row-live = runs-live t (is .account) (row .chain) row-runs
 
   pub row-bears : All (Bears left (row .tonnes)) (row .chain)
   row-bears = bears-from left (row .tonnes) (row .chain) row-open (subst (λ k. All (λ n. k ≤ getD left n 0) (row .chain)) (sym (is .least)) (least-le left (row .chain)))
@@ -83,30 +79,26 @@ module _ (choice : Choice) (t : Tally) (left : List ℕ) (row : Row) (is : IsRow
       (omega (arith, row-off (r .0), r .2, cond-true (holds (r .0 ∷ []) (row .chain)) (row .tonnes) 0 (r .1)))
       (omega (arith, r .2, row-some))
 
-  -- it enters an account with live lines on both sides as often as it leaves it
-  row-begins-not : (a k : ℕ) → Enters t a → cond (eqb (is .account) a) k 0 ≡ 0
-  row-begins-not a k entered =
-      cond-false (eqb (is .account) a) k 0
-      (ne-eqb (is .account) a (λ same. both-ways (any (enters (is .account)) t) (is .origin .unentered) (subst (Enters t) (sym same) entered)))
+  -- and takes its tonnes off each account that it leaves, and as much off each that it enters
+  pub row-leaves : WellFormed t → (a : ℕ) → weigh (leaves a) t (off left (row .tonnes) (row .chain)) + cond (any (leavesBy t a) (row .chain)) (row .tonnes) 0 ≡ weigh (leaves a) t left
+  row-leaves formed a =
+      weigh-off left (row .tonnes) (leaves a) t refl (row .chain) row-bears
+      (runs-apart t (formed .1) (is .account) (row .chain) row-runs)
+      (leaves-once t (formed .1) (is .account) a (row .chain) row-runs)
 
-  row-ends-not : (a k : ℕ) → Leaves t a → cond (eqb (runTo t (is .account) (row .chain)) a) k 0 ≡ 0
-  row-ends-not a k left-on =
-      let end = runTo t (is .account) (row .chain) in
-      cond-false (eqb end a) k 0 (ne-eqb end a (λ same. both-ways (any (leaves end) t) row-ends (subst (Leaves t) (sym same) left-on)))
-
-  pub row-even : (a k : ℕ) → Enters t a → Leaves t a → total (λ n. cond (enters a (at t n)) k 0) (row .chain) ≡ total (λ n. cond (leaves a (at t n)) k 0) (row .chain)
-  row-even a k entered left-on = omega (arith, runs-even t (is .account) (row .chain) row-runs a k, row-begins-not a k entered, row-ends-not a k left-on)
-
-  -- and takes its tonnes off those of its lines that pass a test
-  pub row-weighs : WellFormed t → (p : Line → Bool) → p Struck ≡ false → weigh p t (off left (row .tonnes) (row .chain)) + total (λ n. cond (p (at t n)) (row .tonnes) 0) (row .chain) ≡ weigh p t left
-  row-weighs formed p none = weigh-off left (row .tonnes) p t (row .chain) none row-bears (runs-apart t formed (is .account) (row .chain) row-runs)
+  pub row-enters : WellFormed t → (a : ℕ) → weigh (enters a) t (off left (row .tonnes) (row .chain)) + cond (any (entersBy t a) (row .chain)) (row .tonnes) 0 ≡ weigh (enters a) t left
+  row-enters formed a =
+      weigh-off left (row .tonnes) (enters a) t refl (row .chain) row-bears
+      (runs-apart t (formed .1) (is .account) (row .chain) row-runs)
+      (enters-once t (formed .1) (is .account) a (row .chain) row-runs)
 
   -- so the tonnes left stay fair
   pub fair-after : WellFormed t → Fair t left → Fair t (off left (row .tonnes) (row .chain))
   fair-after formed fair = record {
     whole = length-off left (row .tonnes) (row .chain) ∙ fair .whole;
     spent = λ n struck. omega (arith, row-off n, fair .spent n struck);
-    even = λ a entered left-on. omega (arith, row-even a (row .tonnes) entered left-on, row-weighs formed (enters a) refl, row-weighs formed (leaves a) refl, fair .even a entered left-on);
+    even = λ a entered left-on.
+        omega (arith, row-leaves formed a, row-enters formed a, ap (λ v. cond v (row .tonnes) 0) (full-crosses t a (row .chain) (row-full formed) entered left-on), fair .even a entered left-on);
   }
 
 -- any dividing

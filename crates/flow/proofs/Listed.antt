@@ -1,9 +1,8 @@
 -- The greatest certain chains: each by one line more at either end, decided by the excess, and their complete list. Assumes nothing.
---   by-one-line          a chain is greatest exactly when it is certain and no chain longer by one line is
+--   greatest-by-one-line a chain is greatest exactly when it is certain and no chain longer by one line is
 --   certain-decided      whether a chain is certain, by its excess
 --   greatest-decided     whether a list is a greatest certain chain
---   first-after-decided  the first greatest certain chain after a list, or that there is none
---   list-complete        the list of the greatest certain chains
+--   list-is-complete     the list of the greatest certain chains
 use mathlib.Core.Bool.{Bool, true, false, not, _&&_}
 use mathlib.Core.List.{List, [], _∷_, _++_}
 use mathlib.Core.Logic.{_⊎_, inl, inr, ⊎-elim}
@@ -17,7 +16,7 @@ use Rattle.std.proofs.shelf.Elements.{all-has, all-weaker, kept-by-passes}
 use Rattle.std.proofs.shelf.Lists.{length-push}
 use Rattle.std.proofs.shelf.Signed.{ints}
 use Rattle.std.proofs.shelf.Tests.{and-parts, and-from, both-ways}
-use Rattle.std.proofs.shelf.Ways.{decides-and, decides-not, decides-like, decides-below-and}
+use Rattle.std.proofs.shelf.Ways.{decides-and, decides-not, decides-like}
 use Rattle.std.specs.Orderings.{Decides}
 use Rattle.std.specs.shelf.Lists.{All, Has, kept-by}
 use Rattle.book.specs.Tally.{Tally, WellFormed}
@@ -29,15 +28,17 @@ use Rattle.flow.specs.Promises.{Alone, Greatest-by-one-line, Listed, List-is-c
 use Rattle.flow.specs.Splits.{begins, holds, Certain, Greatest}
 use Rattle.flow.proofs.AllChains.{has-cases, has-none, has-kept, Sorted, sorted-ascends, sorted-kept, lists, sorted-lists, has-lists}
 use Rattle.flow.proofs.Certainty.{certain-iff-excess}
-use Rattle.flow.proofs.ListingInfix.{begins-held, held-after, held-before, part-grows-left, front-grows-right, chain-part, chain-short, chain-within, last-within}
+use Rattle.flow.proofs.ChainFacts.{chain-part, chain-short, chain-within, last-within}
+use Rattle.flow.proofs.Infix.{holds-begins, holds-start, holds-end, part-grows-left, front-grows-right}
+use Rattle.flow.proofs.Order.{before-transitive, before-asymmetric, before-not-same, compare-before}
 use Rattle.flow.proofs.Parts.{part-certain}
-use Rattle.flow.proofs.Order.{before-transitive, before-asymmetric, before-not-same, compare-before, cases-before}
+use Rattle.flow.proofs.Sums.{everyBelow, decides-every-below}
 
 pub greatest-alone : (t : Tally) (w : ℕ) (c : List ℕ) → Greatest t w c → Alone t w c
 greatest-alone t w c g = record {
   certain = g .certain;
-  left = λ n chain certain. g .alone (n ∷ c) chain (held-after n c) (omega arith) certain;
-  right = λ n chain certain. g .alone (c ++ n ∷ []) chain (held-before n c) (omega (arith, length-push c n)) certain;
+  left = λ n chain certain. g .alone (n ∷ c) chain (holds-end (n ∷ []) c) (omega arith) certain;
+  right = λ n chain certain. g .alone (c ++ n ∷ []) chain (holds-start c (n ∷ [])) (omega (arith, length-push c n)) certain;
 }
 
 decides-leZ : (a b : ℤ) → Decides (leZ a b) (a ≤ℤ b)
@@ -78,7 +79,7 @@ module _ (t : Tally) (w : ℕ) (given c : List ℕ) (cs : List (List ℕ)) (rest
         (has-cases c cs d (rest .every d greatest between));
   }
 
-  -- what stands after the head, or after the list where the head does not, is in the tail
+  -- what stands after the head is in the tail
   rest-next : Before given c → Rest t w c cs
   rest-next after = record {
     sorted = rest .sorted .1;
@@ -90,45 +91,17 @@ module _ (t : Tally) (w : ℕ) (given c : List ℕ) (cs : List (List ℕ)) (rest
         (has-cases c cs d (rest .every d greatest (before-transitive given c d after later)));
   }
 
-  rest-passed : (Before given c → ⊥) → Rest t w given cs
-  rest-passed passed = record {
-    sorted = rest .sorted .1;
-    only = rest .only .1;
-    every = λ d greatest later.
-        ⊎-elim
-        (λ same. absurd (passed (subst (λ z. Before given z) (sym same) later)))
-        (λ h. h)
-        (has-cases c cs d (rest .every d greatest later));
-  }
-
 rest-listing : (t : Tally) (w : ℕ) (given : List ℕ) (cs : List (List ℕ)) → All (Before given) cs → Rest t w given cs → Listing t w given cs
 rest-listing t w given [] after rest = λ d greatest later. has-none d (rest .every d greatest later)
 rest-listing t w given (c ∷ cs) after rest =
     (rest-first t w given c cs rest (after .0), rest-listing t w c cs (rest .sorted .0) (rest-next t w given c cs rest (after .0)))
-
-rest-decided : (t : Tally) (w : ℕ) (given : List ℕ) (cs : List (List ℕ)) → Rest t w given cs → ((c : List ℕ) × FirstAfter t w given c) ⊎ NoneAfter t w given
-rest-decided t w given [] rest = inr (λ d greatest later. has-none d (rest .every d greatest later))
-rest-decided t w given (c ∷ cs) rest =
-    ⊎-elim
-    (λ after. inl (c, rest-first t w given c cs rest after))
-    (λ passed. rest-decided t w given cs (rest-passed t w given c cs rest passed))
-    (cases-before given c)
-
--- no number below n passes a test
-abbrev pub noneBelow : (ℕ → Bool) → ℕ → Bool
-noneBelow p zero = true
-noneBelow p (suc n) = not (p n) && noneBelow p n
-
-pub decides-none-below : (p : ℕ → Bool) (P : ℕ → Type 0) → ((n : ℕ) → Decides (p n) (P n)) → (n : ℕ) → Decides (noneBelow p n) ((k : ℕ) → k < n → P k → ⊥)
-decides-none-below p P each n =
-    decides-below-and (λ k. not (p k)) (λ k. P k → ⊥) (noneBelow p) (λ k. decides-not (p k) (each k)) refl (λ _. refl) n
 
 -- a chain whose excess is the floor or more; and one of those that no line more keeps so, at either end
 abbrev pub isCertain : Tally → ℕ → List ℕ → Bool
 isCertain t w c = isChain t c && leZ (pos w) (excess t c)
 
 abbrev pub noneCertain : Tally → ℕ → (ℕ → List ℕ) → Bool
-noneCertain t w longer = noneBelow (λ n. isCertain t w (longer n)) (length t)
+noneCertain t w longer = everyBelow (λ n. not (isCertain t w (longer n))) (length t)
 
 abbrev pub isGreatest : Tally → ℕ → List ℕ → Bool
 isGreatest t w c = isCertain t w c && (noneCertain t w (λ n. n ∷ c) && noneCertain t w (λ n. c ++ n ∷ []))
@@ -163,12 +136,12 @@ alone-greatest t w c chain a = record {
 
     grows-right : (d : List ℕ) → Chain t d → Certain t w d → (m : ℕ) × (begins (c ++ m ∷ []) d ≡ true) → ⊥
     grows-right d chain-d certain-d (m, front) =
-        let held : holds (c ++ m ∷ []) d ≡ true = begins-held (c ++ m ∷ []) d front in
+        let held : holds (c ++ m ∷ []) d ≡ true = holds-begins (c ++ m ∷ []) d front in
         let longer : Chain t (c ++ m ∷ []) = chain-part t (c ++ m ∷ []) d (omega (arith, length-push c m)) chain-d held in
         a .right m longer (part-certain t w (c ++ m ∷ []) d longer certain-d held)
 
-pub by-one-line : Greatest-by-one-line
-by-one-line t w c formed balanced some chain = (greatest-alone t w c, alone-greatest t w c chain)
+pub greatest-by-one-line : Greatest-by-one-line
+greatest-by-one-line t w c formed balanced some chain = (greatest-alone t w c, alone-greatest t w c chain)
 
 module _ (t : Tally) (w : ℕ) (formed : WellFormed t) (balanced : Balanced t) (some : 0 < w) where
   pub certain-decided : (c : List ℕ) → Chain t c → Decides (leZ (pos w) (excess t c)) (Certain t w c)
@@ -190,7 +163,7 @@ module _ (t : Tally) (w : ℕ) (formed : WellFormed t) (balanced : Balanced t) (
       decides-like (noneCertain t w longer)
       (λ below n chain certain. below n (within n chain) (chain, certain))
       (λ none n h both. none n (both .0) (both .1))
-      (decides-none-below (λ n. isCertain t w (longer n)) (λ n. Chain t (longer n) × Certain t w (longer n)) (λ n. certain-chain-decided (longer n)) (length t))
+      (decides-every-below (λ n. not (isCertain t w (longer n))) (λ n. Chain t (longer n) × Certain t w (longer n) → ⊥) (λ n. decides-not (isCertain t w (longer n)) (certain-chain-decided (longer n))) (length t))
 
   pub greatest-decided : (c : List ℕ) → Decides (isGreatest t w c) (Greatest t w c)
   greatest-decided c =
@@ -223,9 +196,6 @@ module _ (t : Tally) (w : ℕ) (formed : WellFormed t) (balanced : Balanced t) (
     every = λ d greatest after. greatest-has d greatest;
   }
 
-  pub first-after-decided : (given : List ℕ) → ((c : List ℕ) × FirstAfter t w given c) ⊎ NoneAfter t w given
-  first-after-decided given = rest-decided t w given (greatestList t w) (greatest-rest given)
-
   after-none : All (Before []) (greatestList t w)
   after-none = all-weaker (Greatest t w) (Before []) (λ c g. chain-after-none t c (g .chain)) (greatestList t w) greatest-only
 
@@ -240,5 +210,5 @@ module _ (t : Tally) (w : ℕ) (formed : WellFormed t) (balanced : Balanced t) (
         only = λ c h. all-has (Greatest t w) (greatestList t w) c greatest-only h;
       }
 
-pub list-complete : List-is-complete
-list-complete t w formed balanced some = (greatestList t w, greatest-listed t w formed balanced some)
+pub list-is-complete : List-is-complete
+list-is-complete t w formed balanced some = (greatestList t w, greatest-listed t w formed balanced some)

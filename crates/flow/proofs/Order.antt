@@ -1,4 +1,4 @@
--- The order on lists of line numbers is strict and total, so which of two lists stands first is decided. Assumes nothing.
+-- The order on lists of line numbers is strict and total. Assumes nothing.
 use mathlib.Core.List.{List, [], _∷_}
 use mathlib.Core.Logic.{_⊎_, inl, inr}
 use mathlib.Core.Path.{_≡_, refl, sym, ap, subst, _∙_}
@@ -43,12 +43,4 @@ compare-before (m ∷ c) (n ∷ d) =
           ]
       | inr (inl less) ↦ inl (inl less)
       | inr (inr more) ↦ inr (inr (inl more))
-    ]
-
-pub cases-before : (c d : List ℕ) → Before c d ⊎ (Before c d → ⊥)
-cases-before c d =
-    elim (compare-before c d) [
-      | inl h ↦ inl h
-      | inr (inl e) ↦ inr (λ h. before-not-same c d h e)
-      | inr (inr k) ↦ inr (λ h. before-asymmetric c d h k)
     ]

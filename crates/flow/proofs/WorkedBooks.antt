@@ -1,6 +1,6 @@
 -- The worked books checked: a test of splits that computes, and what it shows. Assumes nothing.
---   every, everyBelow   each element, or each number below one, passes a test
---   isFull, isSplit     the tests for a full chain and for a split
+--   every             each element of a list passes a test
+--   isFull, isSplit   the tests for a full chain and for a split
 use mathlib.Core.Bool.{Bool, true, not, _&&_, _||_}
 use mathlib.Core.List.{List, [], _∷_}
 use mathlib.Core.Logic.{⊎-elim}
@@ -10,7 +10,6 @@ use native.Mathlib.Omega.{arith}
 use lib.Dec.{eqb, ltb}
 use lib.ListN.{length}
 use Rattle.std.proofs.shelf.Tests.{and-parts, or-cases, not-true, both-ways, ltb-true, eqb-true}
-use Rattle.std.proofs.shelf.Ways.{decides-below-and}
 use Rattle.std.specs.shelf.Lists.{All}
 use Rattle.book.specs.Tally.{Tally, at, isLive, WellFormed}
 use Rattle.book.specs.Totals.{any, enters, leaves, amountOf, inTotal, outTotal}
@@ -19,6 +18,7 @@ use Rattle.flow.specs.Splits.{Row, Split, puts}
 use Rattle.flow.specs.Worked.{harbour, harbourRows, double, doubleRows, fork, forkRows, empty, struckHarbour, Stands, Worked-books-stand}
 use Rattle.flow.proofs.ChainFacts.{live-within}
 use Rattle.flow.proofs.SplitTotals.{balanced-from-split}
+use Rattle.flow.proofs.Sums.{everyBelow, decides-every-below}
 
 abbrev every : {X : Type 0} → (X → Bool) → List X → Bool
 every p [] = true
@@ -27,13 +27,6 @@ every p (x ∷ xs) = p x && every p xs
 every-all : {X : Type 0} (p : X → Bool) (P : X → Type 0) → ((x : X) → p x ≡ true → P x) → (xs : List X) → every p xs ≡ true → All P xs
 every-all p P shows [] h = tt
 every-all p P shows (x ∷ xs) h = let b = and-parts (p x) (every p xs) h in (shows x (b .0), every-all p P shows xs (b .1))
-
-abbrev everyBelow : (ℕ → Bool) → ℕ → Bool
-everyBelow p zero = true
-everyBelow p (suc n) = p n && everyBelow p n
-
-everyBelow-at : (p : ℕ → Bool) (m : ℕ) → everyBelow p m ≡ true → (n : ℕ) → n < m → p n ≡ true
-everyBelow-at p m h = decides-below-and p (λ n. p n ≡ true) (everyBelow p) (λ n. ((λ y. y), (λ y. y))) refl (λ n. refl) m .0 h
 
 abbrev isFull : Tally → List ℕ → Bool
 isFull t c =
@@ -63,6 +56,7 @@ pub split-checked : (t : Tally) (s : List Row) → isSplit t s ≡ true → Spli
 split-checked t s h =
     let both = and-parts (every (λ r. isFull t (r .chain)) s) _ h in
     let rest = and-parts (every (λ r. ltb 0 (r .tonnes)) s) _ (both .1) in
+    let sums : ℕ → Bool = λ k. not (isLive (at t k)) || eqb (puts s (k ∷ [])) (amountOf (at t k)) in
     record {
       full = every-all (λ r. isFull t (r .chain)) (λ r. Full t (r .chain)) (λ r y. full-checked t (r .chain) y) s (both .0);
       some = every-all (λ r. ltb 0 (r .tonnes)) (λ r. 0 < r .tonnes) (λ r y. ltb-true 0 (r .tonnes) y) s (rest .0);
@@ -70,7 +64,7 @@ split-checked t s h =
           ⊎-elim
           (λ struck. absurd (both-ways (isLive (at t n)) (not-true (isLive (at t n)) struck) live))
           (λ same. eqb-true (puts s (n ∷ [])) (amountOf (at t n)) same)
-          (or-cases (not (isLive (at t n))) (eqb (puts s (n ∷ [])) (amountOf (at t n))) (everyBelow-at (λ k. not (isLive (at t k)) || eqb (puts s (k ∷ [])) (amountOf (at t k))) (length t) (rest .1) n (live-within t n live)));
+          (or-cases (not (isLive (at t n))) (eqb (puts s (n ∷ [])) (amountOf (at t n))) (decides-every-below sums (λ k. sums k ≡ true) (λ k. ((λ y. y), (λ y. y))) (length t) .0 (rest .1) n (live-within t n live)));
     }
 
 -- a split makes the book balanced

@@ -1,9 +1,8 @@
--- Sums over the lines of a tally by the tonnes on each line, and lists of tonnes from which a row is taken off. Assumes nothing.
+-- The tonnes left on each line: sums of them over the lines of a tally, the least along lines, and what is left after a row. Assumes nothing.
 --   weigh      the tonnes on those lines that pass a test
 --   openCount  on how many lines there are tonnes
 --   Bears      a number of the list with so many tonnes or more
---   Apart      no number twice
-use mathlib.Core.Bool.{Bool, true, false, cond, _||_, _&&_}
+use mathlib.Core.Bool.{Bool, true, false, cond, _||_}
 use mathlib.Core.List.{List, [], _∷_, _++_, map}
 use mathlib.Core.Logic.{_⊎_, inl, inr, ⊎-elim}
 use mathlib.Core.Path.{_≡_, refl, sym, ap, subst, _∙_}
@@ -15,7 +14,7 @@ use Rattle.std.specs.shelf.Lists.{All, countBy}
 use Rattle.std.proofs.shelf.Lists.{length-set, getD-set-same, getD-set-other}
 use Rattle.std.proofs.shelf.Elements.{all-weaker}
 use Rattle.std.proofs.shelf.Sums.{sumBy-cons}
-use Rattle.std.proofs.shelf.Tests.{cases-bool, cases-eq, cases-lt, cond-true, cond-false, both-ways, or-left, or-right, eq-eqb, ne-eqb}
+use Rattle.std.proofs.shelf.Tests.{cases-bool, cases-eq, cases-lt, cond-true, cond-false, both-ways, or-left, eq-eqb, ne-eqb}
 use Rattle.book.specs.Limits.{mostLines}
 use Rattle.book.specs.Tally.{Tally, at, isLive}
 use Rattle.book.specs.Totals.{total, any, amountOf}
@@ -23,27 +22,8 @@ use Rattle.book.specs.declared.entries.Line.{Line}
 use Rattle.book.specs.declared.entries.Line.the-variants.{Live, Struck}
 use Rattle.flow.specs.Dividing.{amounts, off, leastLeft}
 use Rattle.flow.specs.Splits.{holds}
-
--- the lowest number that passes a test, below a number that does
-first-such : (p : ℕ → Bool) (n : ℕ) → ((b : ℕ) → b < n → p b ≡ false) ⊎ ((m : ℕ) × (p m ≡ true) × ((b : ℕ) → b < m → p b ≡ false))
-first-such p zero = inl (λ b h. absurd (omega arith))
-first-such p (suc n) =
-    ⊎-elim
-    (λ none. ⊎-elim
-    (λ here. inr (n, here, none))
-    (λ gone. inl (λ b h. ⊎-elim (λ same. subst (λ j. p j ≡ false) (sym same) gone) (λ other. none b (omega arith)) (cases-eq b n)))
-    (cases-bool (p n)))
-    (λ found. inr found)
-    (first-such p n)
-
-pub lowest-such : (p : ℕ → Bool) (n : ℕ) → p n ≡ true → (m : ℕ) × (p m ≡ true) × ((b : ℕ) → b < m → p b ≡ false)
-lowest-such p n passes = ⊎-elim (λ none. absurd (both-ways (p n) (none n (omega arith)) passes)) (λ found. found) (first-such p (suc n))
-
--- some line passes a test where the line of a number does
-pub any-at : (p : Line → Bool) (t : Tally) (n : ℕ) → p Struck ≡ false → p (at t n) ≡ true → any p t ≡ true
-any-at p [] n none here = absurd (both-ways (p Struck) none here)
-any-at p (l ∷ t) zero none here = or-left (p l) (any p t) here
-any-at p (l ∷ t) (suc n) none here = or-right (p l) (any p t) (any-at p t n none here)
+use Rattle.flow.proofs.Infix.{Apart, holds-start, holds-more, holds-one-step}
+use Rattle.flow.proofs.Sums.{Once}
 
 abbrev pub weigh : (Line → Bool) → Tally → List ℕ → ℕ
 weigh p [] ws = 0
@@ -155,32 +135,18 @@ pub least-some : (ws : List ℕ) (n : ℕ) (ns : List ℕ) → All (λ m. 0 < ge
 least-some ws n [] some = some .0
 least-some ws n (m ∷ ns) some = omega (arith, some .0, least-some ws m ns (some .1))
 
--- whether a list holds one number
-pub holds-here : (n m : ℕ) (ms : List ℕ) → n ≡ m → holds (n ∷ []) (m ∷ ms) ≡ true
-holds-here n m ms same = ap (λ v. (v && true) || holds (n ∷ []) ms) (eq-eqb n m same)
-
-pub holds-later : (n m : ℕ) (ms : List ℕ) → (n ≡ m → ⊥) → holds (n ∷ []) (m ∷ ms) ≡ holds (n ∷ []) ms
-holds-later n m ms other = ap (λ v. (v && true) || holds (n ∷ []) ms) (ne-eqb n m other)
-
-pub holds-more : (n m : ℕ) (ms : List ℕ) → holds (n ∷ []) ms ≡ true → holds (n ∷ []) (m ∷ ms) ≡ true
-holds-more n m ms later = or-right (eqb n m && true) (holds (n ∷ []) ms) later
-
 pub least-reached : (ws : List ℕ) (n : ℕ) (ns : List ℕ) → (m : ℕ) × (holds (m ∷ []) (n ∷ ns) ≡ true) × (getD ws m 0 ≡ leastLeft ws (n ∷ ns))
-least-reached ws n [] = (n, holds-here n n [] refl, refl)
+least-reached ws n [] = (n, holds-start (n ∷ []) [], refl)
 least-reached ws n (m ∷ ns) =
     let r = least-reached ws m ns in
     ⊎-elim
-    (λ first. (n, holds-here n n (m ∷ ns) refl, omega arith))
-    (λ later. (r .0, holds-more (r .0) n (m ∷ ns) (r .1), omega (arith, r .2)))
+    (λ first. (n, holds-start (n ∷ []) (m ∷ ns), omega arith))
+    (λ later. (r .0, holds-more n (r .0 ∷ []) (m ∷ ns) (r .1), omega (arith, r .2)))
     (cases-lt (getD ws n 0) (leastLeft ws (m ∷ ns)))
 
 -- taking tonnes off lines
 abbrev pub Bears : List ℕ → ℕ → ℕ → Type 0
 Bears ws k n = (n < length ws) × (k ≤ getD ws n 0)
-
-abbrev pub Apart : List ℕ → Type 0
-Apart [] = Unit {0}
-Apart (n ∷ ns) = All (λ m. n ≡ m → ⊥) ns × Apart ns
 
 pub bears-from : (ws : List ℕ) (k : ℕ) (c : List ℕ) → All (λ n. 0 < getD ws n 0) c → All (λ n. k ≤ getD ws n 0) c → All (Bears ws k) c
 bears-from ws k [] some most = tt
@@ -191,28 +157,26 @@ module _ (ws : List ℕ) (k : ℕ) where
   length-off [] = refl
   length-off (n ∷ ns) = length-set (off ws k ns) n (getD ws n 0 - k) ∙ length-off ns
 
-  pub off-other : (c : List ℕ) (n : ℕ) → All (λ m. n ≡ m → ⊥) c → getD (off ws k c) n 0 ≡ getD ws n 0
-  off-other [] n apart = refl
-  off-other (m ∷ ms) n apart = getD-set-other (off ws k ms) m n (getD ws m 0 - k) 0 (apart .0) ∙ off-other ms n (apart .1)
-
   pub off-at : (c : List ℕ) → All (Bears ws k) c → (n : ℕ) → getD (off ws k c) n 0 + cond (holds (n ∷ []) c) k 0 ≡ getD ws n 0
   off-at [] bears n = omega arith
   off-at (m ∷ ms) bears n =
+      let held : (v : Bool) → eqb n m ≡ v → cond (holds (n ∷ []) (m ∷ ms)) k 0 ≡ cond (v || holds (n ∷ []) ms) k 0 = λ v is. ap (λ u. cond u k 0) (holds-one-step n m ms ∙ ap (λ u. u || holds (n ∷ []) ms) is) in
       ⊎-elim
       (λ same.
       let now : getD (off ws k (m ∷ ms)) m 0 ≡ getD ws m 0 - k = getD-set-same (off ws k ms) m (getD ws m 0 - k) 0 (omega (arith, length-off ms, bears .0 .0)) in
-      let then : getD (off ws k (m ∷ ms)) n 0 ≡ getD ws m 0 - k = ap (λ j. getD (off ws k (m ∷ ms)) j 0) same ∙ now in
-      omega (arith, then, bears .0 .1, ap (λ j. getD ws j 0) same, cond-true (holds (n ∷ []) (m ∷ ms)) k 0 (holds-here n m ms same)))
-      (λ other. omega (arith, getD-set-other (off ws k ms) m n (getD ws m 0 - k) 0 other, off-at ms (bears .1) n, ap (λ v. cond v k 0) (holds-later n m ms other)))
+      omega (arith, ap (λ j. getD (off ws k (m ∷ ms)) j 0) same, now, bears .0 .1, ap (λ j. getD ws j 0) same, held true (eq-eqb n m same)))
+      (λ other. omega (arith, getD-set-other (off ws k ms) m n (getD ws m 0 - k) 0 other, off-at ms (bears .1) n, held false (ne-eqb n m other)))
       (cases-eq n m)
 
-  pub weigh-off : (p : Line → Bool) (t : Tally) (c : List ℕ) → p Struck ≡ false → All (Bears ws k) c → Apart c → weigh p t (off ws k c) + total (λ n. cond (p (at t n)) k 0) c ≡ weigh p t ws
-  weigh-off p t [] none bears apart = omega arith
-  weigh-off p t (n ∷ ns) none bears apart =
+  -- off the lines of a tally, at most one of which passes a test
+  pub weigh-off : (p : Line → Bool) (t : Tally) → p Struck ≡ false → (c : List ℕ) → All (Bears ws k) c → Apart c → Once (λ n. p (at t n)) c → weigh p t (off ws k c) + cond (any (λ n. p (at t n)) c) k 0 ≡ weigh p t ws
+  weigh-off p t none [] bears apart once = omega arith
+  weigh-off p t none (n ∷ ns) bears apart once =
       let changed = weigh-set p t (off ws k ns) n (getD ws n 0 - k) none (omega (arith, length-off ns, bears .0 .0)) in
-      let before = off-other ns n (apart .0) in
-      let rest = weigh-off p t ns none (bears .1) (apart .1) in
+      let before = off-at ns (bears .1) n in
+      let apart-n = cond-false (holds (n ∷ []) ns) k 0 (apart .0) in
+      let rest = weigh-off p t none ns (bears .1) (apart .1) (once .1) in
       ⊎-elim
-      (λ passes. omega (arith, changed, before, rest, bears .0 .1, cond-true (p (at t n)) k 0 passes, cond-true (p (at t n)) (getD ws n 0 - k) 0 passes, cond-true (p (at t n)) (getD (off ws k ns) n 0) 0 passes))
-      (λ fails. omega (arith, changed, before, rest, cond-false (p (at t n)) k 0 fails, cond-false (p (at t n)) (getD ws n 0 - k) 0 fails, cond-false (p (at t n)) (getD (off ws k ns) n 0) 0 fails))
+      (λ passes. omega (arith, changed, before, apart-n, rest, bears .0 .1, cond-true (p (at t n) || any (λ m. p (at t m)) ns) k 0 (or-left (p (at t n)) (any (λ m. p (at t m)) ns) passes), cond-false (any (λ m. p (at t m)) ns) k 0 (once .0 passes), cond-true (p (at t n)) (getD ws n 0 - k) 0 passes, cond-true (p (at t n)) (getD (off ws k ns) n 0) 0 passes))
+      (λ fails. omega (arith, changed, rest, ap (λ v. cond (v || any (λ m. p (at t m)) ns) k 0) fails, cond-false (p (at t n)) (getD ws n 0 - k) 0 fails, cond-false (p (at t n)) (getD (off ws k ns) n 0) 0 fails))
       (cases-bool (p (at t n)))
