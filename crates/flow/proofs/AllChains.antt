@@ -6,19 +6,13 @@ use mathlib.Core.Path.{_≡_, refl, sym, ap, subst, _∙_}
 use Prim.Native.Nat.{ℕ, zero, suc, _<_, _≤_}
 use native.Mathlib.Omega.{arith}
 use lib.ListN.{length, getD}
-use Rattle.std.proofs.shelf.Elements.{all-append, all-from-getD, all-map, all-weaker, all-kept-by, has-append-left, has-append-right}
+use Rattle.std.proofs.shelf.Elements.{all-append, all-from-getD, all-map, all-weaker, all-kept-by, has-append-left, has-append-right, has-getD}
 use Rattle.std.proofs.shelf.Lists.{length-map, getD-map}
 use Rattle.std.proofs.shelf.Tests.{cases-eq, cond-both, cond-true}
 use Rattle.std.specs.shelf.Lists.{All, Has, kept-by}
 use Rattle.flow.specs.Listing.{Before, Ascends}
 
 -- what a list has
-has-here : {X : Type 0} (x : X) (xs : List X) → Has (x ∷ xs) x
-has-here x xs = (0, omega arith, λ d. refl)
-
-has-later : {X : Type 0} (y : X) (xs : List X) (x : X) → Has xs x → Has (y ∷ xs) x
-has-later y xs x (k, within, is) = (suc k, omega arith, is)
-
 pub has-cases : {X : Type 0} (y : X) (xs : List X) (x : X) → Has (y ∷ xs) x → (y ≡ x) ⊎ Has xs x
 has-cases y xs x (zero, within, is) = inl (is y)
 has-cases y xs x (suc k, within, is) = inr (k, omega arith, is)
@@ -33,8 +27,8 @@ pub has-kept : {X : Type 0} (p : X → Bool) (xs : List X) (x : X) → Has xs x 
 has-kept p [] x h passes = absurd (has-none x h)
 has-kept p (y ∷ xs) x h passes =
     ⊎-elim
-    (λ same. subst (λ zs. Has zs x) (sym (cond-true (p y) (y ∷ kept-by p xs) (kept-by p xs) (ap p same ∙ passes))) (subst (λ z. Has (y ∷ kept-by p xs) z) same (has-here y (kept-by p xs))))
-    (λ later. let rest = has-kept p xs x later passes in cond-both (p y) (y ∷ kept-by p xs) (kept-by p xs) (λ zs. Has zs x) (λ _. has-later y (kept-by p xs) x rest) (λ _. rest))
+    (λ same. subst (λ zs. Has zs x) (sym (cond-true (p y) (y ∷ kept-by p xs) (kept-by p xs) (ap p same ∙ passes))) (subst (λ z. Has (y ∷ kept-by p xs) z) same (has-getD (y ∷ kept-by p xs) 0 y (omega arith))))
+    (λ later. let rest = has-kept p xs x later passes in cond-both (p y) (y ∷ kept-by p xs) (kept-by p xs) (λ zs. Has zs x) (λ _. has-append-right (y ∷ []) (kept-by p xs) x rest) (λ _. rest))
     (has-cases y xs x h)
 
 -- each stands before all that follow
@@ -134,8 +128,8 @@ sorted-lists (suc most) n = (
 
 pub has-lists : (most n : ℕ) (c : List ℕ) → length c ≤ most → All (λ m. m < n) c → Has (lists most n) c
 unfolding lists
-has-lists zero n [] short within = has-here [] []
+has-lists zero n [] short within = has-getD ([] ∷ []) 0 [] (omega arith)
 has-lists zero n (m ∷ c) short within = absurd (omega arith)
-has-lists (suc most) n [] short within = has-here [] (headed n (lists most n))
+has-lists (suc most) n [] short within = has-getD ([] ∷ headed n (lists most n)) 0 [] (omega arith)
 has-lists (suc most) n (m ∷ c) short within =
-    has-later [] (headed n (lists most n)) (m ∷ c) (has-headed n m (lists most n) c (within .0) (has-lists most n c (omega arith) (within .1)))
+    has-append-right ([] ∷ []) (headed n (lists most n)) (m ∷ c) (has-headed n m (lists most n) c (within .0) (has-lists most n c (omega arith) (within .1)))

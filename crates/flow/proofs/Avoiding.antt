@@ -13,14 +13,14 @@ use Rattle.std.proofs.shelf.Lists.{append-assoc, append-nil}
 use Rattle.std.proofs.shelf.Signed.{ints}
 use Rattle.std.proofs.shelf.Tests.{and-parts, and-right, and-cases, eqb-true, eqb-false, eq-eqb, ne-eqb, ltb-false, not-true, both-ways, cases-bool, cond-true, cond-false}
 use Rattle.std.specs.shelf.Lists.{All}
-use Rattle.book.specs.Tally.{Tally, at, Sound}
-use Rattle.book.specs.Totals.{any, leaves, amountOf, inTotal}
+use Rattle.book.specs.Tally.{Tally, at, Sound, WellFormed}
+use Rattle.book.specs.Totals.{any, leaves, amountOf, inTotal, Balanced}
 use Rattle.flow.specs.Chains.{fromOf, toOf, runs, isChain, runTo, Chain}
-use Rattle.flow.specs.Dividing.{amounts, Walk, IsRow, off, Divides}
-use Rattle.flow.specs.Excess.{positive}
+use Rattle.flow.specs.Dividing.{amounts, Walk, IsRow, off, Divides, Dividing}
+use Rattle.flow.specs.Excess.{figure, joined, positive}
 use Rattle.flow.specs.Promises.{Avoiding-reaches-figure}
 use Rattle.flow.specs.Rules.{Choice, isOpen, lowestOf, lowest, turn, endsWith, avoidingFrom, avoiding}
-use Rattle.flow.specs.Splits.{Row, holds, puts}
+use Rattle.flow.specs.Splits.{Row, Split, holds, puts}
 use Rattle.flow.proofs.ChainFacts.{leaves-from, leaves-within, leaves-some, line-live, line-leaves, line-entered, rises, run-length, runs-step, runs-parts, chain-step}
 use Rattle.flow.proofs.Divided.{row-open, row-off, dividing-split}
 use Rattle.flow.proofs.ExcessForms.{out-beside}
@@ -145,15 +145,14 @@ module _ (t : Tally) (sound : All Sound t) (first : ℕ) (inner : List ℕ) (p :
       (cases-bool (strays t front p (r .chain))))
       (cases-bool (holds (front ++ p ∷ []) (r .chain)))
 
--- the figure of an excess of at most 0
-positive-none : (z : ℤ) → z ≤ℤ pos 0 → positive z ≡ 0
-positive-none (pos n) low = let h : n ≤ 0 = omega (arith, ints) in omega arith
-positive-none (negsuc n) low = refl
+pub positive-under : (z : ℤ) (n : ℕ) → z ≤ℤ pos n → positive z ≤ n
+positive-under (pos m) n under = omega (arith, ints)
+positive-under (negsuc m) n under = omega arith
 
 -- from what is put on the lines before a line to what is put on them with it
 figure-step : (e : ℤ) (before on astray amount entering : ℕ) → before ≡ positive e → before + astray + amount ≡ on + entering → (on ≡ 0) ⊎ (astray ≡ 0) → amount ≤ entering → on ≡ positive ((e +ℤ pos amount) -ℤ pos entering)
 figure-step (pos k) before on astray amount entering is adds (inl none) within =
-    omega (arith, positive-none ((pos k +ℤ pos amount) -ℤ pos entering) (omega (arith, ints)))
+    omega (arith, positive-under ((pos k +ℤ pos amount) -ℤ pos entering) 0 (omega (arith, ints)))
 figure-step (pos k) before on astray amount entering is adds (inr none) within =
     sym (ap positive (exact ((pos k +ℤ pos amount) -ℤ pos entering) refl))
   where
@@ -162,23 +161,26 @@ figure-step (pos k) before on astray amount entering is adds (inr none) within =
 figure-step (negsuc k) before on astray amount entering is adds none within =
     let low : ((negsuc k +ℤ pos amount) -ℤ pos entering) ≤ℤ pos 0 = omega (arith, ints) in
     ⊎-elim
-    (λ no-rows. omega (arith, positive-none ((negsuc k +ℤ pos amount) -ℤ pos entering) low))
-    (λ no-stray. omega (arith, positive-none ((negsuc k +ℤ pos amount) -ℤ pos entering) low))
+    (λ no-rows. omega (arith, positive-under ((negsuc k +ℤ pos amount) -ℤ pos entering) 0 low))
+    (λ no-stray. omega (arith, positive-under ((negsuc k +ℤ pos amount) -ℤ pos entering) 0 low))
     none
 
-pub avoiding-reaches-figure : Avoiding-reaches-figure
-avoiding-reaches-figure c = (
-  law-avoiding c,
-  (λ t rows well balanced chain dividing.
-      let split = dividing-split (avoiding c) t rows well dividing in
-      excess-along t (λ e d. puts rows d ≡ positive e) c chain
-      (λ n live. split .sums n live)
-      (λ first inner p rest e is before.
+module _ (c : List ℕ) (t : Tally) (rows : List Row) (well : WellFormed t) (balanced : Balanced t) (chain : Chain t c) (dividing : Dividing (avoiding c) t rows) where
+  split : Split t rows
+  split = dividing-split (avoiding c) t rows well dividing
+
+  line-more : (first : ℕ) (inner : List ℕ) (p : ℕ) (rest : List ℕ) (e : ℤ) → c ≡ first ∷ (inner ++ p ∷ rest) → puts rows (first ∷ inner) ≡ positive e → puts rows (first ∷ (inner ++ p ∷ [])) ≡ positive (joined t e p)
+  line-more first inner p rest e is before =
       let on : Chain t (first ∷ (inner ++ p ∷ rest)) = subst (Chain t) is chain in
-      let out = line-leaves t first inner p rest on in
+      let level = balanced (fromOf (at t p)) (line-entered t first inner p rest on) (leaves-some t (fromOf (at t p)) p (line-leaves t first inner p rest on)) in
       figure-step e (puts rows (first ∷ inner)) (puts rows (first ∷ (inner ++ p ∷ []))) (straying t rows (first ∷ inner) p) (amountOf (at t p)) (inTotal t (fromOf (at t p)))
       before
       (split-adds t well first inner p rest on rows split)
-      (never-both t (well .1) first inner p rest on (amounts t) rows (subst (λ x. Divides (avoiding x) t (amounts t) rows) is dividing))
-      (omega (arith, balanced (fromOf (at t p)) (line-entered t first inner p rest on) (leaves-some t (fromOf (at t p)) p out), out-beside t p (line-live t first inner p rest on))))),
-)
+      (never-both t (well .1) first inner p rest on (amounts t) rows (subst (λ x. Dividing (avoiding x) t rows) is dividing))
+      (omega (arith, level, out-beside t p (line-live t first inner p rest on)))
+
+  puts-figure : puts rows c ≡ figure t c
+  puts-figure = excess-along t (λ e d. puts rows d ≡ positive e) c chain (split .sums) line-more
+
+pub avoiding-reaches-figure : Avoiding-reaches-figure
+avoiding-reaches-figure c = (law-avoiding c, puts-figure c)

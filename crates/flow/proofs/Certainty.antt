@@ -13,8 +13,7 @@ use Rattle.flow.specs.Excess.{excess, positive, figure}
 use Rattle.flow.specs.Promises.{Certain-iff-excess, Figure-is-least}
 use Rattle.flow.specs.Rules.{avoiding}
 use Rattle.flow.specs.Splits.{Row, Split, puts}
-use Rattle.flow.proofs.Avoiding.{avoiding-reaches-figure}
-use Rattle.flow.proofs.RuleLaws.{law-avoiding}
+use Rattle.flow.proofs.Avoiding.{avoiding-reaches-figure, positive-under}
 use Rattle.flow.proofs.Divided.{dividing-is-split}
 use Rattle.flow.proofs.SplitExcess.{split-puts-excess}
 
@@ -23,14 +22,10 @@ floor-under : (z : ℤ) (w : ℕ) → 0 < w → w ≤ positive z → pos w ≤�
 floor-under (pos n) w some under = omega (arith, ints)
 floor-under (negsuc n) w some under = absurd (omega arith)
 
-figure-under : (z : ℤ) (n : ℕ) → z ≤ℤ pos n → positive z ≤ n
-figure-under (pos m) n under = omega (arith, ints)
-figure-under (negsuc m) n under = omega arith
-
 -- a split that puts exactly the figure on a chain
 pub figure-reached : (t : Tally) (c : List ℕ) → WellFormed t → Balanced t → Chain t c → (s : List Row) × Split t s × (puts s c ≡ figure t c)
 figure-reached t c well balanced chain =
-    let divided = dividing-is-split (avoiding c) t (law-avoiding c) well balanced in
+    let divided = dividing-is-split (avoiding c) t (avoiding-reaches-figure c .0) well balanced in
     (divided .0, divided .1 .split, avoiding-reaches-figure c .1 t (divided .0) well balanced chain (divided .1 .dividing))
 
 pub certain-iff-excess : Certain-iff-excess
@@ -43,6 +38,6 @@ certain-iff-excess t w c well balanced chain some = (
 
 pub figure-is-least : Figure-is-least
 figure-is-least t c well balanced chain = (
-  (λ s split. figure-under (excess t c) (puts s c) (split-puts-excess t s c well split chain)),
+  (λ s split. positive-under (excess t c) (puts s c) (split-puts-excess t s c well split chain)),
   figure-reached t c well balanced chain,
 )

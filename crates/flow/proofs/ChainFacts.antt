@@ -1,6 +1,7 @@
 -- Facts on live lines, runs and chains: what a line's ends say, parts of chains, and accounts that rise along them. Assumes nothing.
 --   leavesBy, entersBy   whether the line of a number leaves an account, or enters it
-use mathlib.Core.Bool.{Bool, true, false, _||_}
+--   isOrigin             the test for an origin
+use mathlib.Core.Bool.{Bool, true, false, not, _&&_, _||_}
 use mathlib.Core.List.{List, [], _∷_, _++_}
 use mathlib.Core.Path.{_≡_, refl, sym, ap, subst, _∙_}
 use Prim.Native.Nat.{ℕ, zero, suc, _+_, _<_, _≤_}
@@ -8,7 +9,8 @@ use native.Mathlib.Omega.{arith}
 use lib.Dec.{eqb, leb}
 use lib.ListN.{length}
 use Rattle.std.proofs.shelf.Elements.{all-has, all-weaker, has-push}
-use Rattle.std.proofs.shelf.Tests.{and-parts, and-from, or-from, both-ways, eqb-true, eq-eqb, ne-eqb, leb-true, le-leb}
+use Rattle.std.proofs.shelf.Tests.{and-parts, and-from, or-from, both-ways, eqb-true, eq-eqb, ne-eqb, leb-true, le-leb, not-true, not-from-false}
+use Rattle.std.specs.Orderings.{Decides}
 use Rattle.std.specs.shelf.Lists.{All}
 use Rattle.book.specs.Limits.{highestAccount}
 use Rattle.book.specs.Tally.{Tally, at, isLive, Sound}
@@ -87,6 +89,16 @@ enters-some t a n h = any-at (enters a) t n Struck refl h
 
 pub live-entered : (t : Tally) (n : ℕ) → isLive (at t n) ≡ true → Enters t (toOf (at t n))
 live-entered t n live = enters-some t (toOf (at t n)) n (enters-own (at t n) live)
+
+-- an origin, as a test
+abbrev pub isOrigin : Tally → ℕ → Bool
+isOrigin t a = any (leaves a) t && not (any (enters a) t)
+
+pub decides-origin : (t : Tally) (a : ℕ) → Decides (isOrigin t a) (Origin t a)
+decides-origin t a = (
+  (λ h. let p = and-parts (any (leaves a) t) (not (any (enters a) t)) h in record { left = p .0; unentered = not-true (any (enters a) t) (p .1) }),
+  (λ o. and-from (any (leaves a) t) (not (any (enters a) t)) (o .left) (not-from-false (any (enters a) t) (o .unentered))),
+)
 
 -- runs
 pub runs-step : (t : Tally) (a n : ℕ) (ns : List ℕ) → runs t a (n ∷ ns) ≡ true → (leaves a (at t n) ≡ true) × (runs t (toOf (at t n)) ns ≡ true)

@@ -2,7 +2,7 @@
 --   of any row:       row-runs, row-open, row-bears, row-full, row-some, row-reaches, row-off, row-lessens, row-leaves, row-enters
 --   of any dividing:  divides-puts, divides-full, divides-some, divides-few, divides-alone
 --   of fair tonnes:   fair-after, next-row, divides-from, fair-amounts
-use mathlib.Core.Bool.{Bool, true, false, not, cond, _&&_}
+use mathlib.Core.Bool.{Bool, true, false, cond, _&&_}
 use mathlib.Core.List.{List, [], _∷_, map}
 use mathlib.Core.Logic.{⊎-elim}
 use mathlib.Core.Path.{_≡_, refl, sym, ap, subst, _∙_}
@@ -12,7 +12,7 @@ use lib.Dec.{ltb}
 use lib.ListN.{length, getD, replicate}
 use Rattle.std.specs.shelf.Lists.{All}
 use Rattle.std.proofs.shelf.Lists.{length-append, length-map, length-replicate}
-use Rattle.std.proofs.shelf.Tests.{cases-bool, cases-order, both-ways, and-parts, and-from, cond-true, ltb-true, lt-ltb, not-true, not-from-false}
+use Rattle.std.proofs.shelf.Tests.{cases-bool, cases-order, both-ways, and-parts, and-from, cond-true, ltb-true, lt-ltb}
 use Rattle.book.specs.Limits.{mostLines, accounts}
 use Rattle.book.specs.Tally.{Tally, at, isLive, WellFormed}
 use Rattle.book.specs.Totals.{any, enters, leaves, amountOf, Balanced}
@@ -23,7 +23,7 @@ use Rattle.flow.specs.Dividing.{amounts, Walk, leastLeft, IsRow, off, Divides,
 use Rattle.flow.specs.Promises.{Dividing-is-split}
 use Rattle.flow.specs.Rules.{Choice, Law, Open, lowest}
 use Rattle.flow.specs.Splits.{Row, Split, puts, holds}
-use Rattle.flow.proofs.ChainFacts.{leavesBy, entersBy, leaves-once, enters-once, full-crosses, runs-apart, runs-full}
+use Rattle.flow.proofs.ChainFacts.{leavesBy, entersBy, isOrigin, decides-origin, leaves-once, enters-once, full-crosses, runs-apart, runs-full}
 use Rattle.flow.proofs.RuleLaws.{law-lowest, open-leaves, open-some}
 use Rattle.flow.proofs.Sums.{lowest-such}
 use Rattle.flow.proofs.TonnesLeft.{weigh, weigh-at, weigh-amounts, getD-amounts, nothing-or-some, openCount, openCount-lt, openCount-amounts, least-le, least-some, least-reached, Bears, bears-from, length-off, off-at, weigh-off}
@@ -150,20 +150,17 @@ module _ (choice : Choice) (t : Tally) where
 
 -- an origin with tonnes left on a line out, as a test
 abbrev isSource : Tally → List ℕ → ℕ → Bool
-isSource t left a = (any (leaves a) t && not (any (enters a) t)) && ltb 0 (weigh (leaves a) t left)
+isSource t left a = isOrigin t a && ltb 0 (weigh (leaves a) t left)
 
 source-from : (t : Tally) (left : List ℕ) (a n : ℕ) → Origin t a → Open t left a n → isSource t left a ≡ true
 source-from t left a n origin opened =
-    let out = open-leaves t left a n opened in
-    and-from (any (leaves a) t && not (any (enters a) t)) (ltb 0 (weigh (leaves a) t left))
-    (and-from (any (leaves a) t) (not (any (enters a) t)) (origin .left) (not-from-false (any (enters a) t) (origin .unentered)))
-    (lt-ltb 0 (weigh (leaves a) t left) (omega (arith, weigh-at (leaves a) t left n refl out, open-some t left a n opened)))
+    and-from (isOrigin t a) (ltb 0 (weigh (leaves a) t left)) (decides-origin t a .1 origin)
+    (lt-ltb 0 (weigh (leaves a) t left) (omega (arith, weigh-at (leaves a) t left n refl (open-leaves t left a n opened), open-some t left a n opened)))
 
 source-is : (t : Tally) (left : List ℕ) (a : ℕ) → isSource t left a ≡ true → Origin t a × (0 < weigh (leaves a) t left)
 source-is t left a h =
-    let parts = and-parts (any (leaves a) t && not (any (enters a) t)) (ltb 0 (weigh (leaves a) t left)) h in
-    let sides = and-parts (any (leaves a) t) (not (any (enters a) t)) (parts .0) in
-    (record { left = sides .0; unentered = not-true (any (enters a) t) (sides .1) }, ltb-true 0 (weigh (leaves a) t left) (parts .1))
+    let p = and-parts (isOrigin t a) (ltb 0 (weigh (leaves a) t left)) h in
+    (decides-origin t a .0 (p .0), ltb-true 0 (weigh (leaves a) t left) (p .1))
 
 module _ (choice : Choice) (law : Law choice) (t : Tally) (formed : WellFormed t) where
   -- from the lowest source there is a row

@@ -12,7 +12,7 @@ use Rattle.book.specs.Totals.{amountOf, inTotal, outTotal, figure, leaves, ente
 use Rattle.book.specs.declared.entries.Line.the-variants.{Struck}
 use Rattle.book.specs.declared.table.Side.the-variants.{In, Out}
 use Rattle.flow.specs.Chains.{Chain, runs, fromOf, toOf}
-use Rattle.flow.specs.Excess.{excess, excessOn, joined, leavingBeside, enteringBeside, allLeaving, converging, convergingOn}
+use Rattle.flow.specs.Excess.{excess, excessOn, joined, leavingBeside, enteringBeside, allLeaving, convergingOn}
 use Rattle.flow.specs.Promises.{Excess-both-ways}
 use Rattle.flow.proofs.ChainFacts.{live-within, live-entered, leaves-live, leaves-from, leaves-own, leaves-some, enters-own, runs-step, chain-step, chain-rest, line-meets}
 use Rattle.flow.proofs.Sums.{total-set}

@@ -5,9 +5,9 @@
 --   list-is-complete     the list of the greatest certain chains
 use mathlib.Core.Bool.{Bool, true, false, not, _&&_}
 use mathlib.Core.List.{List, [], _∷_, _++_}
-use mathlib.Core.Logic.{_⊎_, inl, inr, ⊎-elim}
+use mathlib.Core.Logic.{inl, inr, ⊎-elim}
 use mathlib.Core.Path.{_≡_, refl, sym, ap, subst, _∙_}
-use Prim.Native.Nat.{ℕ, zero, suc, _<_}
+use Prim.Native.Nat.{ℕ, _<_}
 use native.Mathlib.Omega.{arith}
 use lib.IntN.{ℤ, pos}
 use lib.ListN.{length}
@@ -23,7 +23,7 @@ use Rattle.book.specs.Tally.{Tally, WellFormed}
 use Rattle.book.specs.Totals.{Balanced}
 use Rattle.flow.specs.Chains.{Chain, isChain, longestChain}
 use Rattle.flow.specs.Excess.{excess}
-use Rattle.flow.specs.Listing.{Before, FirstAfter, NoneAfter, Listing}
+use Rattle.flow.specs.Listing.{Before, FirstAfter, Listing}
 use Rattle.flow.specs.Promises.{Alone, Greatest-by-one-line, Listed, List-is-complete}
 use Rattle.flow.specs.Splits.{begins, holds, Certain, Greatest}
 use Rattle.flow.proofs.AllChains.{has-cases, has-none, has-kept, Sorted, sorted-ascends, sorted-kept, lists, sorted-lists, has-lists}

@@ -1,6 +1,6 @@
 -- What a split puts through an account, and that a book with a split is balanced. Assumes nothing.
 --   crossing   the tonnes of a split's rows with a line on one side of an account
-use mathlib.Core.Bool.{Bool, true, false, cond}
+use mathlib.Core.Bool.{true, false, cond}
 use mathlib.Core.List.{List, [], _∷_}
 use mathlib.Core.Logic.{⊎-elim}
 use mathlib.Core.Path.{_≡_, refl, sym, ap, _∙_}
@@ -20,7 +20,7 @@ use Rattle.flow.specs.Dividing.{amounts, off}
 use Rattle.flow.specs.Splits.{Row, Split, holds, puts}
 use Rattle.flow.proofs.ChainFacts.{enters-live, leaves-live, enters-once, leaves-once, full-crosses, chain-runs, runs-live, runs-apart}
 use Rattle.flow.proofs.Infix.{all-held}
-use Rattle.flow.proofs.Sums.{Once, total-same}
+use Rattle.flow.proofs.Sums.{Once, all-both, total-same}
 use Rattle.flow.proofs.TonnesLeft.{weigh, weigh-some, weigh-amounts, getD-amounts, Bears, within-from-some, off-at, weigh-off}
 
 abbrev pub crossing : Side → Tally → List Row → ℕ → ℕ
@@ -43,11 +43,13 @@ module _ (t : Tally) (sound : All Sound t) where
   abbrev Carries : List ℕ → List Row → Type 0
   Carries ws s = (n : ℕ) → isLive (at t n) ≡ true → getD ws n 0 ≡ puts s (n ∷ [])
 
-  row-bears : (ws : List ℕ) (r : Row) (s : List Row) → Carries ws (r ∷ s) → 0 < r .tonnes → (d : List ℕ) → All (λ n. isLive (at t n) ≡ true) d → All (λ n. holds (n ∷ []) (r .chain) ≡ true) d → All (Bears ws (r .tonnes)) d
-  row-bears ws r s carries some [] live held = tt
-  row-bears ws r s carries some (n ∷ d) live held =
-      let own = cond-true (holds (n ∷ []) (r .chain)) (r .tonnes) 0 (held .0) in
-      ((within-from-some ws n (omega (arith, carries n (live .0), own)), omega (arith, carries n (live .0), own)), row-bears ws r s carries some d (live .1) (held .1))
+  row-bears : (ws : List ℕ) (r : Row) (s : List Row) → Carries ws (r ∷ s) → 0 < r .tonnes → All (λ n. isLive (at t n) ≡ true) (r .chain) → All (Bears ws (r .tonnes)) (r .chain)
+  row-bears ws r s carries some live =
+      all-both (λ n. isLive (at t n) ≡ true) (λ n. holds (n ∷ []) (r .chain) ≡ true) (Bears ws (r .tonnes))
+      (λ n live-n held.
+      let own = cond-true (holds (n ∷ []) (r .chain)) (r .tonnes) 0 held in
+      (within-from-some ws n (omega (arith, carries n live-n, own)), omega (arith, carries n live-n, own)))
+      (r .chain) live (all-held (r .chain))
 
   weigh-crossing : (side : Side) (a : ℕ) (ws : List ℕ) (s : List Row) → All (λ r. Full t (r .chain)) s → All (λ r. 0 < r .tonnes) s → Carries ws s → weigh (touches side a) t ws ≡ crossing side t s a
   weigh-crossing side a ws [] full some carries =
@@ -58,7 +60,7 @@ module _ (t : Tally) (sound : All Sound t) where
   weigh-crossing side a ws (r ∷ s) full some carries =
       let d = r .chain in
       let run = chain-runs t d (full .0 .chain) in
-      let bears = row-bears ws r s carries (some .0) d (runs-live t (start t d) d run) (all-held d) in
+      let bears = row-bears ws r s carries (some .0) (runs-live t (start t d) d run) in
       let this = weigh-off ws (r .tonnes) (touches side a) t (touches-none side a) d bears (runs-apart t sound (start t d) d run) (touches-once side a (start t d) d run) in
       let rest = weigh-crossing side a (off ws (r .tonnes) d) s (full .1) (some .1) (λ n live. omega (arith, off-at ws (r .tonnes) d bears n, carries n live)) in
       omega (arith, this, rest)

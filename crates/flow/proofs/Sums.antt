@@ -33,6 +33,10 @@ total-set f [] i y d h = absurd (omega arith)
 total-set f (x ∷ xs) zero y d h = omega arith
 total-set f (x ∷ xs) (suc i) y d h = omega (arith, total-set f xs i y d (omega arith))
 
+pub all-both : {X : Type 0} (P Q R : X → Type 0) → ((x : X) → P x → Q x → R x) → (xs : List X) → All P xs → All Q xs → All R xs
+all-both P Q R joins [] ps qs = tt
+all-both P Q R joins (x ∷ xs) ps qs = (joins x (ps .0) (qs .0), all-both P Q R joins xs (ps .1) (qs .1))
+
 pub false-unless : (b : Bool) → (b ≡ true → ⊥) → b ≡ false
 false-unless true never = absurd (never refl)
 false-unless false never = refl

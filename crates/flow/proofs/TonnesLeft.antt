@@ -5,7 +5,7 @@
 use mathlib.Core.Bool.{Bool, true, false, cond, _||_}
 use mathlib.Core.List.{List, [], _∷_, _++_, map}
 use mathlib.Core.Logic.{_⊎_, inl, inr, ⊎-elim}
-use mathlib.Core.Path.{_≡_, refl, sym, ap, subst, _∙_}
+use mathlib.Core.Path.{_≡_, refl, ap, _∙_}
 use Prim.Native.Nat.{ℕ, zero, suc, _+_, _-_, _<_, _≤_, min}
 use native.Mathlib.Omega.{arith}
 use lib.Dec.{eqb}
@@ -23,7 +23,7 @@ use Rattle.book.specs.declared.entries.Line.the-variants.{Live, Struck}
 use Rattle.flow.specs.Dividing.{amounts, off, leastLeft}
 use Rattle.flow.specs.Splits.{holds}
 use Rattle.flow.proofs.Infix.{Apart, holds-start, holds-more, holds-one-step}
-use Rattle.flow.proofs.Sums.{Once}
+use Rattle.flow.proofs.Sums.{Once, all-both}
 
 abbrev pub weigh : (Line → Bool) → Tally → List ℕ → ℕ
 weigh p [] ws = 0
@@ -149,8 +149,7 @@ abbrev pub Bears : List ℕ → ℕ → ℕ → Type 0
 Bears ws k n = (n < length ws) × (k ≤ getD ws n 0)
 
 pub bears-from : (ws : List ℕ) (k : ℕ) (c : List ℕ) → All (λ n. 0 < getD ws n 0) c → All (λ n. k ≤ getD ws n 0) c → All (Bears ws k) c
-bears-from ws k [] some most = tt
-bears-from ws k (n ∷ ns) some most = ((within-from-some ws n (some .0), most .0), bears-from ws k ns (some .1) (most .1))
+bears-from ws k c some most = all-both (λ n. 0 < getD ws n 0) (λ n. k ≤ getD ws n 0) (Bears ws k) (λ n here bears. (within-from-some ws n here, bears)) c some most
 
 module _ (ws : List ℕ) (k : ℕ) where
   pub length-off : (c : List ℕ) → length (off ws k c) ≡ length ws

@@ -5,7 +5,7 @@ use mathlib.Core.Bool.{Bool, true, not, _&&_, _||_}
 use mathlib.Core.List.{List, [], _∷_}
 use mathlib.Core.Logic.{⊎-elim}
 use mathlib.Core.Path.{_≡_, refl}
-use Prim.Native.Nat.{ℕ, zero, suc, _<_}
+use Prim.Native.Nat.{ℕ, _<_}
 use native.Mathlib.Omega.{arith}
 use lib.Dec.{eqb, ltb}
 use lib.ListN.{length}
@@ -16,7 +16,7 @@ use Rattle.book.specs.Totals.{any, enters, leaves, amountOf, inTotal, outTotal}
 use Rattle.flow.specs.Chains.{isChain, start, finish, Full}
 use Rattle.flow.specs.Splits.{Row, Split, puts}
 use Rattle.flow.specs.Worked.{harbour, harbourRows, double, doubleRows, fork, forkRows, empty, struckHarbour, Stands, Worked-books-stand}
-use Rattle.flow.proofs.ChainFacts.{live-within}
+use Rattle.flow.proofs.ChainFacts.{isOrigin, decides-origin, live-within}
 use Rattle.flow.proofs.SplitTotals.{balanced-from-split}
 use Rattle.flow.proofs.Sums.{everyBelow, decides-every-below}
 
@@ -31,7 +31,7 @@ every-all p P shows (x ∷ xs) h = let b = and-parts (p x) (every p xs) h in (sh
 abbrev isFull : Tally → List ℕ → Bool
 isFull t c =
     isChain t c
-    && ((any (leaves (start t c)) t && not (any (enters (start t c)) t))
+    && (isOrigin t (start t c)
     && (any (enters (finish t c)) t && not (any (leaves (finish t c)) t)))
 
 abbrev isSplit : Tally → List Row → Bool
@@ -43,12 +43,11 @@ isSplit t s =
 full-checked : (t : Tally) (c : List ℕ) → isFull t c ≡ true → Full t c
 full-checked t c h =
     let all = and-parts (isChain t c) _ h in
-    let ends = and-parts (any (leaves (start t c)) t && not (any (enters (start t c)) t)) _ (all .1) in
-    let first = and-parts (any (leaves (start t c)) t) _ (ends .0) in
+    let ends = and-parts (isOrigin t (start t c)) _ (all .1) in
     let last = and-parts (any (enters (finish t c)) t) _ (ends .1) in
     record {
       chain = all .0;
-      origin = record { left = first .0; unentered = not-true (any (enters (start t c)) t) (first .1) };
+      origin = decides-origin t (start t c) .0 (ends .0);
       ending = record { entered = last .0; unleft = not-true (any (leaves (finish t c)) t) (last .1) };
     }
 
