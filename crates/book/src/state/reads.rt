@@ -27,7 +27,8 @@ impl Book {
 
     // The line of that number, where one is posted.
     pub fn line(&self, number: u16) -> Option<Line>
-        ensures { λ r. ⌜ r ≡ cond (ltb number (length (lines (now (self .entry))))) (Some (at (lines (now (self .entry))) number)) None ⌝ }
+        ensures line { λ r. ⌜ r ≡ cond (ltb number (length (lines (now (self .entry))))) (Some (at (lines (now (self .entry))) number)) None ⌝ }
+        ensures sound { λ _. ⌜ WellFormed (lines (now (self .entry))) ⌝ }
     {
         let at = number as usize;
         if at >= self.count {

@@ -1,0 +1,3 @@
+pub mod Faults
+pub mod Stops
+pub mod Certainty
