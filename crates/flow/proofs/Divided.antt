@@ -1,5 +1,5 @@
 -- Under every lawful rule a balanced book has exactly one dividing, and it is a split with at most one row for each live line. Assumes nothing.
---   of any row:       row-runs, row-open, row-bears, row-full, row-some, row-reaches, row-off, row-lessens, row-leaves, row-enters
+--   of any row:       row-runs, row-open, row-bears, row-full, row-some, row-reaches, row-off, row-lessens, row-crossing
 --   of any dividing:  divides-puts, divides-full, divides-some, divides-few, divides-alone
 --   of fair tonnes:   fair-after, next-row, divides-from, fair-amounts
 use mathlib.Core.Bool.{Bool, true, false, cond, _&&_}
@@ -15,25 +15,28 @@ use Rattle.std.proofs.shelf.Lists.{length-append, length-map, length-replicate}
 use Rattle.std.proofs.shelf.Tests.{cases-bool, cases-order, both-ways, and-parts, and-from, cond-true, ltb-true, lt-ltb}
 use Rattle.book.specs.Limits.{mostLines, accounts}
 use Rattle.book.specs.Tally.{Tally, at, isLive, WellFormed}
-use Rattle.book.specs.Totals.{any, enters, leaves, amountOf, Balanced}
+use Rattle.book.specs.Totals.{any, enters, leaves, touches, amountOf, Balanced}
 use Rattle.book.specs.declared.entries.Line.{Line}
 use Rattle.book.specs.declared.entries.Line.the-variants.{Live, Struck}
+use Rattle.book.specs.declared.table.Side.{Side}
+use Rattle.book.specs.declared.table.Side.the-variants.{In, Out}
 use Rattle.flow.specs.Chains.{fromOf, runs, Origin, Full}
 use Rattle.flow.specs.Dividing.{amounts, Walk, leastLeft, IsRow, off, Divides, Dividing}
 use Rattle.flow.specs.Promises.{Dividing-is-split}
 use Rattle.flow.specs.Rules.{Choice, Law, Open, lowest}
 use Rattle.flow.specs.Splits.{Row, Split, puts, holds}
-use Rattle.flow.proofs.ChainFacts.{leavesBy, entersBy, isOrigin, decides-origin, leaves-once, enters-once, full-crosses, runs-apart, runs-full}
+use Rattle.flow.proofs.ChainFacts.{isOrigin, decides-origin, full-crosses, runs-full}
 use Rattle.flow.proofs.RuleLaws.{law-lowest, open-leaves, open-some}
+use Rattle.flow.proofs.SplitTotals.{off-crossing}
 use Rattle.flow.proofs.Sums.{lowest-such}
-use Rattle.flow.proofs.TonnesLeft.{weigh, weigh-at, weigh-amounts, getD-amounts, nothing-or-some, openCount, openCount-lt, openCount-amounts, least-le, least-some, least-reached, Bears, bears-from, length-off, off-at, weigh-off}
+use Rattle.flow.proofs.TonnesLeft.{weigh, weigh-at, weigh-amounts, getD-amounts, nothing-or-some, openCount, openCount-lt, openCount-amounts, least-le, least-some, least-reached, Bears, bears-from, length-off, off-at}
 use Rattle.flow.proofs.Walks.{Fair, walk-runs, walk-ends, walk-some, walk-alone, open-out, walk-from, open-origin}
 
 -- a walk from an origin has a line
 module _ (choice : Choice) (t : Tally) (left : List ℕ) (a : ℕ) (origin : Origin t a) where
   pub walk-full : (c : List ℕ) → WellFormed t → Walk choice t left a [] c → Full t c
-  walk-full [] formed w = absurd (both-ways (any (leaves a) t) w (origin .left))
-  walk-full (n ∷ ns) formed w = runs-full t (formed .1) a n ns (walk-runs choice t left a [] (n ∷ ns) w) origin (walk-ends choice t left a [] (n ∷ ns) w)
+  walk-full [] well w = absurd (both-ways (any (leaves a) t) w (origin .left))
+  walk-full (n ∷ ns) well w = runs-full t (well .1) a n ns (walk-runs choice t left a [] (n ∷ ns) w) origin (walk-ends choice t left a [] (n ∷ ns) w)
 
   pub walk-least : (c : List ℕ) → Walk choice t left a [] c → 0 < leastLeft left c
   walk-least [] w = absurd (both-ways (any (leaves a) t) w (origin .left))
@@ -55,7 +58,7 @@ module _ (choice : Choice) (t : Tally) (left : List ℕ) (row : Row) (is : IsRow
   row-bears = bears-from left (row .tonnes) (row .chain) row-open (subst (λ k. All (λ n. k ≤ getD left n 0) (row .chain)) (sym (is .least)) (least-le left (row .chain)))
 
   pub row-full : WellFormed t → Full t (row .chain)
-  row-full formed = walk-full choice t left (is .account) (is .origin) (row .chain) formed (is .walk)
+  row-full well = walk-full choice t left (is .account) (is .origin) (row .chain) well (is .walk)
 
   pub row-some : 0 < row .tonnes
   row-some = omega (arith, is .least, walk-least choice t left (is .account) (is .origin) (row .chain) (is .walk))
@@ -79,26 +82,17 @@ module _ (choice : Choice) (t : Tally) (left : List ℕ) (row : Row) (is : IsRow
       (omega (arith, row-off (r .0), r .2, cond-true (holds (r .0 ∷ []) (row .chain)) (row .tonnes) 0 (r .1)))
       (omega (arith, r .2, row-some))
 
-  -- and takes its tonnes off each account that it leaves, and as much off each that it enters
-  pub row-leaves : WellFormed t → (a : ℕ) → weigh (leaves a) t (off left (row .tonnes) (row .chain)) + cond (any (leavesBy t a) (row .chain)) (row .tonnes) 0 ≡ weigh (leaves a) t left
-  row-leaves formed a =
-      weigh-off left (row .tonnes) (leaves a) t refl (row .chain) row-bears
-      (runs-apart t (formed .1) (is .account) (row .chain) row-runs)
-      (leaves-once t (formed .1) (is .account) a (row .chain) row-runs)
-
-  pub row-enters : WellFormed t → (a : ℕ) → weigh (enters a) t (off left (row .tonnes) (row .chain)) + cond (any (entersBy t a) (row .chain)) (row .tonnes) 0 ≡ weigh (enters a) t left
-  row-enters formed a =
-      weigh-off left (row .tonnes) (enters a) t refl (row .chain) row-bears
-      (runs-apart t (formed .1) (is .account) (row .chain) row-runs)
-      (enters-once t (formed .1) (is .account) a (row .chain) row-runs)
+  -- and takes its tonnes off each account that it crosses
+  row-crossing : WellFormed t → (side : Side) (a : ℕ) → weigh (touches side a) t (off left (row .tonnes) (row .chain)) + cond (any (λ n. touches side a (at t n)) (row .chain)) (row .tonnes) 0 ≡ weigh (touches side a) t left
+  row-crossing well side a = off-crossing t (well .1) side a left (row .tonnes) (is .account) (row .chain) row-runs row-bears
 
   -- so the tonnes left stay fair
   pub fair-after : WellFormed t → Fair t left → Fair t (off left (row .tonnes) (row .chain))
-  fair-after formed fair = record {
+  fair-after well fair = record {
     whole = length-off left (row .tonnes) (row .chain) ∙ fair .whole;
     spent = λ n struck. omega (arith, row-off n, fair .spent n struck);
     even = λ a entered left-on.
-        omega (arith, row-leaves formed a, row-enters formed a, ap (λ v. cond v (row .tonnes) 0) (full-crosses t a (row .chain) (row-full formed) entered left-on), fair .even a entered left-on);
+        omega (arith, row-crossing well Out a, row-crossing well In a, ap (λ v. cond v (row .tonnes) 0) (full-crosses t a (row .chain) (row-full well) entered left-on), fair .even a entered left-on);
   }
 
 -- any dividing
@@ -108,8 +102,8 @@ module _ (choice : Choice) (t : Tally) where
   divides-puts left (row ∷ rows) d n = omega (arith, row-off choice t left row (d .0) n, divides-puts (off left (row .tonnes) (row .chain)) rows (d .1) n)
 
   pub divides-full : WellFormed t → (left : List ℕ) (rows : List Row) → Divides choice t left rows → All (λ r. Full t (r .chain)) rows
-  divides-full formed left [] d = tt
-  divides-full formed left (row ∷ rows) d = (row-full choice t left row (d .0) formed, divides-full formed (off left (row .tonnes) (row .chain)) rows (d .1))
+  divides-full well left [] d = tt
+  divides-full well left (row ∷ rows) d = (row-full choice t left row (d .0) well, divides-full well (off left (row .tonnes) (row .chain)) rows (d .1))
 
   pub divides-some : (left : List ℕ) (rows : List Row) → Divides choice t left rows → All (λ r. 0 < r .tonnes) rows
   divides-some left [] d = tt
@@ -162,13 +156,13 @@ source-is t left a h =
     let p = and-parts (isOrigin t a) (ltb 0 (weigh (leaves a) t left)) h in
     (decides-origin t a .0 (p .0), ltb-true 0 (weigh (leaves a) t left) (p .1))
 
-module _ (choice : Choice) (law : Law choice) (t : Tally) (formed : WellFormed t) where
+module _ (choice : Choice) (law : Law choice) (t : Tally) (well : WellFormed t) where
   -- from the lowest source there is a row
   row-from : (left : List ℕ) → Fair t left → (a : ℕ) → isSource t left a ≡ true → ((b : ℕ) → b < a → isSource t left b ≡ false) → (row : Row) × IsRow choice t left row
   row-from left fair a source low =
       let is = source-is t left a source in
       let opened = open-out t left a (is .1) in
-      let found = walk-from t left formed fair choice law accounts a [] (omega arith) (λ _. opened) in
+      let found = walk-from t left well fair choice law accounts a [] (omega arith) (λ _. opened) in
       made (found .0) (is .0) opened (found .1)
     where
       made : (c : List ℕ) → Origin t a → (n : ℕ) × Open t left a n → Walk choice t left a [] c → (row : Row) × IsRow choice t left row
@@ -188,7 +182,7 @@ module _ (choice : Choice) (law : Law choice) (t : Tally) (formed : WellFormed t
   pub next-row : (left : List ℕ) → Fair t left → (n : ℕ) → 0 < getD left n 0 → (row : Row) × IsRow choice t left row
   next-row left fair n some =
       let live : isLive (at t n) ≡ true = ⊎-elim (λ live. live) (λ struck. absurd (omega (arith, fair .spent n struck))) (cases-bool (isLive (at t n))) in
-      let from = open-origin t left formed fair (suc (fromOf (at t n))) n (omega arith) live some in
+      let from = open-origin t left well fair (suc (fromOf (at t n))) n (omega arith) live some in
       let low = lowest-such (isSource t left) (from .0) (source-from t left (from .0) (from .1) (from .2) (from .3)) in
       row-from left fair (low .0) (low .1) (low .2)
 
@@ -205,7 +199,7 @@ module _ (choice : Choice) (law : Law choice) (t : Tally) (formed : WellFormed t
       (λ some.
       let next = next-row left fair (some .0) (some .1) in
       let row = next .0 in
-      let rest = divides-from fuel (off left (row .tonnes) (row .chain)) (omega (arith, row-lessens choice t left row (next .1))) (fair-after choice t left row (next .1) formed fair) in
+      let rest = divides-from fuel (off left (row .tonnes) (row .chain)) (omega (arith, row-lessens choice t left row (next .1))) (fair-after choice t left row (next .1) well fair) in
       (row ∷ rest .0, (next .1, rest .1)))
       (nothing-or-some left)
 
@@ -214,31 +208,31 @@ struck-nothing (Live from to amount) h = absurd (both-ways true h refl)
 struck-nothing Struck h = refl
 
 pub fair-amounts : (t : Tally) → WellFormed t → Balanced t → Fair t (amounts t)
-fair-amounts t formed balanced = record {
-  whole = omega (arith, length-append (map amountOf t) (replicate (mostLines - length t) 0), length-map t amountOf, length-replicate {A = ℕ} (mostLines - length t) 0, formed .0);
+fair-amounts t well balanced = record {
+  whole = omega (arith, length-append (map amountOf t) (replicate (mostLines - length t) 0), length-map t amountOf, length-replicate {A = ℕ} (mostLines - length t) 0, well .0);
   spent = λ n struck. getD-amounts t n ∙ struck-nothing (at t n) struck;
   even = λ a entered left-on. weigh-amounts (enters a) t ∙ (balanced a entered left-on ∙ sym (weigh-amounts (leaves a) t));
 }
 
 pub dividing-split : (choice : Choice) (t : Tally) (rows : List Row) → WellFormed t → Dividing choice t rows → Split t rows
-dividing-split choice t rows formed d = record {
-  full = divides-full choice t formed (amounts t) rows d;
+dividing-split choice t rows well d = record {
+  full = divides-full choice t well (amounts t) rows d;
   some = divides-some choice t (amounts t) rows d;
   sums = λ n live. divides-puts choice t (amounts t) rows d n ∙ getD-amounts t n;
 }
 
 pub dividing-is-split : Dividing-is-split
-dividing-is-split choice t law formed balanced =
-    let found = divides-from choice law t formed (openCount (amounts t)) (amounts t) (omega arith) (fair-amounts t formed balanced) in
+dividing-is-split choice t law well balanced =
+    let found = divides-from choice law t well (openCount (amounts t)) (amounts t) (omega arith) (fair-amounts t well balanced) in
     let rows = found .0 in (
       rows,
       record {
         dividing = found .1;
         alone = λ others d. divides-alone choice t (amounts t) rows others (found .1) d;
-        split = dividing-split choice t rows formed (found .1);
+        split = dividing-split choice t rows well (found .1);
         few = omega (arith, divides-few choice t (amounts t) rows (found .1), openCount-amounts t);
       },
     )
 
 pub split-from-balanced : (t : Tally) → WellFormed t → Balanced t → (s : List Row) × Split t s
-split-from-balanced t formed balanced = let r = dividing-is-split lowest t law-lowest formed balanced in (r .0, r .1 .split)
+split-from-balanced t well balanced = let r = dividing-is-split lowest t law-lowest well balanced in (r .0, r .1 .split)

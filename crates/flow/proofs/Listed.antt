@@ -141,12 +141,12 @@ alone-greatest t w c chain a = record {
         a .right m longer (part-certain t w (c ++ m ∷ []) d longer certain-d held)
 
 pub greatest-by-one-line : Greatest-by-one-line
-greatest-by-one-line t w c formed balanced some chain = (greatest-alone t w c, alone-greatest t w c chain)
+greatest-by-one-line t w c well balanced some chain = (greatest-alone t w c, alone-greatest t w c chain)
 
-module _ (t : Tally) (w : ℕ) (formed : WellFormed t) (balanced : Balanced t) (some : 0 < w) where
+module _ (t : Tally) (w : ℕ) (well : WellFormed t) (balanced : Balanced t) (some : 0 < w) where
   pub certain-decided : (c : List ℕ) → Chain t c → Decides (leZ (pos w) (excess t c)) (Certain t w c)
   certain-decided c chain =
-      let iff = certain-iff-excess t w c formed balanced chain some in
+      let iff = certain-iff-excess t w c well balanced chain some in
       decides-like (leZ (pos w) (excess t c)) (iff .1) (iff .0) (decides-leZ (pos w) (excess t c))
 
   pub certain-chain-decided : (c : List ℕ) → Decides (isCertain t w c) (Chain t c × Certain t w c)
@@ -211,4 +211,4 @@ module _ (t : Tally) (w : ℕ) (formed : WellFormed t) (balanced : Balanced t) (
       }
 
 pub list-is-complete : List-is-complete
-list-is-complete t w formed balanced some = (greatestList t w, greatest-listed t w formed balanced some)
+list-is-complete t w well balanced some = (greatestList t w, greatest-listed t w well balanced some)

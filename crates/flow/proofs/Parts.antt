@@ -6,9 +6,8 @@ use mathlib.Core.Path.{_≡_}
 use Prim.Native.Nat.{ℕ, _≤_}
 use native.Mathlib.Omega.{arith}
 use Rattle.std.proofs.shelf.Tests.{cases-bool, cond-true, cond-false}
-use Rattle.book.specs.Tally.{Tally}
-use Rattle.flow.specs.Chains.{Chain}
-use Rattle.flow.specs.Splits.{Row, holds, puts, Certain}
+use Rattle.flow.specs.Promises.{Part-certain}
+use Rattle.flow.specs.Splits.{Row, holds, puts}
 use Rattle.flow.proofs.Infix.{holds-trans}
 use Rattle.flow.proofs.Sums.{total-le}
 
@@ -22,5 +21,5 @@ part-puts s c d part = total-le (λ r. cond (holds d (r .chain)) (r .tonnes) 0) 
         (λ z. omega (arith, cond-false (holds d (r .chain)) (r .tonnes) 0 z))
         (cases-bool (holds d (r .chain)))
 
-pub part-certain : (t : Tally) (w : ℕ) (c d : List ℕ) → Chain t c → Certain t w d → holds c d ≡ true → Certain t w c
+pub part-certain : Part-certain
 part-certain t w c d chain certain part s split = omega (arith, certain s split, part-puts s c d part)

@@ -4,7 +4,7 @@ use mathlib.Core.Bool.{true, false, cond}
 use mathlib.Core.List.{List, [], _∷_}
 use mathlib.Core.Logic.{⊎-elim}
 use mathlib.Core.Path.{_≡_, refl, sym, ap, _∙_}
-use Prim.Native.Nat.{ℕ, _<_}
+use Prim.Native.Nat.{ℕ, _+_, _<_}
 use native.Mathlib.Omega.{arith}
 use lib.ListN.{getD}
 use Rattle.std.proofs.shelf.Tests.{cases-lt, cond-true}
@@ -39,6 +39,10 @@ module _ (t : Tally) (sound : All Sound t) where
   touches-once In a b d run = enters-once t sound b a d run
   touches-once Out a b d run = leaves-once t sound b a d run
 
+  -- tonnes taken off the lines of a run are taken off the account where one of these lines stands on the given side of it
+  pub off-crossing : (side : Side) (a : ℕ) (ws : List ℕ) (k b : ℕ) (d : List ℕ) → runs t b d ≡ true → All (Bears ws k) d → weigh (touches side a) t (off ws k d) + cond (any (λ n. touches side a (at t n)) d) k 0 ≡ weigh (touches side a) t ws
+  off-crossing side a ws k b d run bears = weigh-off ws k (touches side a) t (touches-none side a) d bears (runs-apart t sound b d run) (touches-once side a b d run)
+
   -- tonnes that are just those of rows, taken off row by row
   abbrev Carries : List ℕ → List Row → Type 0
   Carries ws s = (n : ℕ) → isLive (at t n) ≡ true → getD ws n 0 ≡ puts s (n ∷ [])
@@ -61,7 +65,7 @@ module _ (t : Tally) (sound : All Sound t) where
       let d = r .chain in
       let run = chain-runs t d (full .0 .chain) in
       let bears = row-bears ws r s carries (some .0) (runs-live t (start t d) d run) in
-      let this = weigh-off ws (r .tonnes) (touches side a) t (touches-none side a) d bears (runs-apart t sound (start t d) d run) (touches-once side a (start t d) d run) in
+      let this = off-crossing side a ws (r .tonnes) (start t d) d run bears in
       let rest = weigh-crossing side a (off ws (r .tonnes) d) s (full .1) (some .1) (λ n live. omega (arith, off-at ws (r .tonnes) d bears n, carries n live)) in
       omega (arith, this, rest)
 

@@ -20,10 +20,11 @@ use Rattle.flow.proofs.ChainFacts.{leaves-live, leaves-from, leaves-own, leave
 use Rattle.flow.proofs.RuleLaws.{open-leaves, open-some, open-from}
 use Rattle.flow.proofs.TonnesLeft.{weigh, weigh-at, weigh-some}
 
+-- an account with an open line is left
 pub open-left : (t : Tally) (left : List ℕ) (a n : ℕ) → Open t left a n → Leaves t a
 open-left t left a n opened = leaves-some t a n (open-leaves t left a n opened)
 
--- a walk is such a run of lines, each with tonnes left
+-- a walk is a run of lines, each with tonnes left, to an account that nothing leaves
 module _ (choice : Choice) (t : Tally) (left : List ℕ) where
   pub walk-runs : (a : ℕ) (walked c : List ℕ) → Walk choice t left a walked c → runs t a c ≡ true
   walk-runs a walked [] w = refl
@@ -68,7 +69,7 @@ pub record Fair (t : Tally) (left : List ℕ) : Type 0 where
   pub spent : (n : ℕ) → isLive (at t n) ≡ false → getD left n 0 ≡ 0
   pub even : (a : ℕ) → Enters t a → Leaves t a → weigh (enters a) t left ≡ weigh (leaves a) t left
 
-module _ (t : Tally) (left : List ℕ) (formed : WellFormed t) (fair : Fair t left) where
+module _ (t : Tally) (left : List ℕ) (well : WellFormed t) (fair : Fair t left) where
   -- what was entered by a line with tonnes left is left by such a line, if at all
   pub open-on : (a n : ℕ) → Open t left a n → Leaves t (toOf (at t n)) → (m : ℕ) × Open t left (toOf (at t n)) m
   open-on a n opened left-on =
@@ -80,7 +81,7 @@ module _ (t : Tally) (left : List ℕ) (formed : WellFormed t) (fair : Fair t le
   pub walk-from : (choice : Choice) → Law choice → (fuel a : ℕ) (walked : List ℕ) → accounts ≤ fuel + a → (Leaves t a → (n : ℕ) × Open t left a n) → (c : List ℕ) × Walk choice t left a walked c
   walk-from choice law zero a walked enough on =
       ⊎-elim
-      (λ some. let r = on some in absurd (omega (arith, rises t (formed .1) a (r .0) (open-leaves t left a (r .0) (r .1)), entered-within t (formed .1) (r .0))))
+      (λ some. let r = on some in absurd (omega (arith, rises t (well .1) a (r .0) (open-leaves t left a (r .0) (r .1)), entered-within t (well .1) (r .0))))
       (λ none. ([], none))
       (cases-bool (any (leaves a) t))
   walk-from choice law (suc fuel) a walked enough on =
@@ -88,8 +89,8 @@ module _ (t : Tally) (left : List ℕ) (formed : WellFormed t) (fair : Fair t le
       (λ some.
       let r = on some in
       let n = choice t left a walked in
-      let opened : Open t left a n = law t left a walked formed (fair .whole) (r .0) (r .1) in
-      let up = rises t (formed .1) a n (open-leaves t left a n opened) in
+      let opened : Open t left a n = law t left a walked well (fair .whole) (r .0) (r .1) in
+      let up = rises t (well .1) a n (open-leaves t left a n opened) in
       let rest = walk-from choice law fuel (toOf (at t n)) (walked ++ n ∷ []) (omega arith) (open-on a n opened) in
       (n ∷ rest .0, (refl, opened, rest .1)))
       (λ none. ([], none))
@@ -106,6 +107,6 @@ module _ (t : Tally) (left : List ℕ) (formed : WellFormed t) (fair : Fair t le
       (λ entered.
       let r = weigh-some (enters a) t left (omega (arith, fair .even a entered leaves-a, weigh-at (leaves a) t left n refl out)) in
       let live-in = enters-live a (at t (r .0)) (r .1) in
-      open-origin fuel (r .0) (omega (arith, upward (at t (r .0)) (sound-at t (formed .1) (r .0)) live-in, enters-to a (at t (r .0)) (r .1))) live-in (r .2))
+      open-origin fuel (r .0) (omega (arith, upward (at t (r .0)) (sound-at t (well .1) (r .0)) live-in, enters-to a (at t (r .0)) (r .1))) live-in (r .2))
       (λ unentered. (a, n, record { left = leaves-a; unentered = unentered }, open-from t left a n out some))
       (cases-bool (any (enters a) t))

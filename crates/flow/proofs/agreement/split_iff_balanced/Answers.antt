@@ -3,4 +3,4 @@ use Rattle.flow.proofs.SplitTotals.{balanced-from-split}
 use Rattle.flow.proofs.agreement.split_iff_balanced.Needs as need
 
 pub returns : need.returns
-returns c t formed = (split-from-balanced t formed, balanced-from-split t formed)
+returns c t well = (split-from-balanced t well, balanced-from-split t well)
