@@ -91,6 +91,7 @@ differs-false t a same =
     (cases-bool (differs t a))
 
 pub balances-stop : (t : Tally) → All Sound t → (r : Result Unit Fault) → Balances t r → (o : Outcome) → checked r o ≡ stopped (balanceStops t) o
+unfolding balanceStops
 balances-stop t sound (Ok x) balanced o =
     sym (cond-false _ _ _ (someOf-false (differs t) 0 accounts (λ a ge lt. differs-false t a (λ d. d .2 (balanced a (d .0) (d .1))))))
 balances-stop t sound (Err e) (a, d, lower, is) o =

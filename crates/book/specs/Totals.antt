@@ -92,7 +92,7 @@ differs t a = any (enters a) t && any (leaves a) t && not (eqb (inTotal t a) (ou
 abbrev pub lowestDiffering : Tally → ℕ
 lowestDiffering t = lowestOf (differs t) 0 0 accounts
 
-abbrev pub balanceStops : Tally → List Stop
+unfoldable pub balanceStops : Tally → List Stop
 balanceStops t =
     stop (someOf (differs t) 0 accounts) book 7 (lowestDiffering t ∷ inTotal t (lowestDiffering t) ∷ outTotal t (lowestDiffering t) ∷ []) ∷ []
 

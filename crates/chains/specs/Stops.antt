@@ -3,13 +3,13 @@
 --   withPlace     a book's stop met on a chain carries the line's place, too
 --   lineStops     one line of a chain, where the line before it enters an account or there is none
 --   linesStops    each line in turn
---   chainStops    of a chain that is handed to a question: its length, each of its lines, and the balance last
+--   chainStopped  of a chain that is handed to a question: its length, each of its lines, and the balance last
 use mathlib.Core.Bool.{false, not, _||_}
 use mathlib.Core.List.{List, [], _∷_, _++_}
 use Prim.Native.Nat.{ℕ, _+_}
 use lib.Dec.{eqb, ltb}
 use lib.ListN.{length}
-use Rattle.book.specs.Outcome.{chain, Outcome, answers, refuses, Stop, stop}
+use Rattle.book.specs.Outcome.{chain, Outcome, answers, refuses, Stop, stop, stopped}
 use Rattle.book.specs.Tally.{Tally, at, lineStops as bookStops}
 use Rattle.book.specs.Totals.{leaves, balanceStops}
 use Rattle.flow.specs.Chains.{longestChain, toOf}
@@ -38,5 +38,6 @@ abbrev pub linesStops : Tally → ℕ → Option ℕ → List ℕ → List Stop
 linesStops t p before [] = []
 linesStops t p before (n ∷ ns) = lineStops t p before n ++ linesStops t (p + 1) (Some (toOf (at t n))) ns
 
-abbrev pub chainStops : Tally → List ℕ → List Stop
-chainStops t c = lengthStops (length c) ++ (linesStops t 0 None c ++ balanceStops t)
+-- read one after the other: the first stop met, or else the outcome given
+abbrev pub chainStopped : Tally → List ℕ → Outcome → Outcome
+chainStopped t c o = stopped (lengthStops (length c)) (stopped (linesStops t 0 None c) (stopped (balanceStops t) o))

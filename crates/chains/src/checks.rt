@@ -7,14 +7,14 @@ ghost use Rattle.book.specs.Limits.{accounts, greatestAmount};
 ghost use Rattle.book.specs.Lines.{lines};
 ghost use Rattle.book.specs.Outcome.{Outcome, stopped};
 ghost use Rattle.book.specs.Tally.{at, WellFormed};
-ghost use Rattle.book.specs.Totals.{amountOf, Balanced};
+ghost use Rattle.book.specs.Totals.{amountOf, Balanced, balanceStops};
 ghost use Rattle.chains.specs.Faults.{checked};
-ghost use Rattle.chains.specs.Stops.{lengthStops, lineStops, linesStops, chainStops};
+ghost use Rattle.chains.specs.Stops.{lengthStops, lineStops, linesStops, chainStopped};
 ghost use Rattle.flow.specs.Chains.{longestChain, fromOf, toOf, Chain};
 ghost use Rattle.std.specs.Vec.{made};
 ghost use Rattle.std.specs.declared.option.Option.the-variants.{Some, None};
-use crate::faults::Fault;
 use crate::LONGEST_CHAIN;
+use crate::faults::Fault;
 use book::Book;
 use book::Line;
 
@@ -66,5 +66,38 @@ fn check_line(book: &Book, place: usize, before: Option<u8>, line: u16) -> Resul
             Ok(to)
         }
         None => Ok(to),
+    }
+}
+
+// Each line of a chain in turn.
+fn check_lines(book: &Book, chain: &[u16]) -> Result<(), Fault>
+    ensures { λ r. ⌜ ((o : Outcome) → checked r o ≡ stopped (linesStops (lines (now (book .entry))) 0 None (now (chain .entry))) o) ⌝ }
+{
+    let mut before = None;
+    for i in 0..chain.len() {
+        let to = check_line(book, i, before, chain[i])?;
+        before = Some(to);
+    }
+    Ok(())
+}
+
+// A chain that is handed to a question: its length, each of its lines, and the balance last.
+pub fn check_chain(book: &Book, chain: &[u16]) -> Result<(), Fault>
+    ensures stop { λ r. ⌜ ((o : Outcome) → checked r o ≡ chainStopped (lines (now (book .entry))) (now (chain .entry)) o) ⌝ }
+    ensures passed { λ r. ⌜ made r (λ _. Chain (lines (now (book .entry))) (now (chain .entry)) × Balanced (lines (now (book .entry))) × WellFormed (lines (now (book .entry)))) ⌝ }
+{
+    check_length(chain.len())?;
+    check_lines(book, chain)?;
+    check_balance(book)
+}
+
+pub fn check_balance(book: &Book) -> Result<(), Fault>
+    ensures stop { λ r. ⌜ ((o : Outcome) → checked r o ≡ stopped (balanceStops (lines (now (book .entry)))) o) ⌝ }
+    ensures passed { λ r. ⌜ made r (λ _. Balanced (lines (now (book .entry)))) ⌝ }
+    ensures sound { λ _. ⌜ WellFormed (lines (now (book .entry))) ⌝ }
+{
+    match book.balance() {
+        Ok(_) => Ok(()),
+        Err(fault) => Err(Fault::Book(fault)),
     }
 }

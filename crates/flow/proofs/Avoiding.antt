@@ -19,7 +19,8 @@ use Rattle.flow.specs.Chains.{fromOf, toOf, runs, isChain, runTo, Chain}
 use Rattle.flow.specs.Dividing.{amounts, Walk, IsRow, off, Divides, Dividing}
 use Rattle.flow.specs.Excess.{figure, joined, positive}
 use Rattle.flow.specs.Promises.{Avoiding-reaches-figure}
-use Rattle.flow.specs.Rules.{Choice, isOpen, lowestOf, lowest, turn, endsWith, avoidingFrom, avoiding}
+use Rattle.book.specs.Search.{lowestOf}
+use Rattle.flow.specs.Rules.{Choice, isOpen, lowest, turn, endsWith, avoidingFrom, avoiding}
 use Rattle.flow.specs.Splits.{Row, Split, holds, puts}
 use Rattle.flow.proofs.ChainFacts.{leaves-from, leaves-within, leaves-some, line-live, line-leaves, line-entered, rises, run-length, runs-step, runs-parts, chain-step}
 use Rattle.flow.proofs.Divided.{row-open, row-off, dividing-split}

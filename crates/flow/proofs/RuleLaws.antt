@@ -14,7 +14,8 @@ use Rattle.std.proofs.shelf.Tests.{cases-bool, cases-eq, cases-lt, cond-true, c
 use Rattle.book.specs.Tally.{Tally, at}
 use Rattle.book.specs.Totals.{leaves}
 use Rattle.flow.specs.Chains.{fromOf, toOf, runs, isChain}
-use Rattle.flow.specs.Rules.{Law, Open, isOpen, lowestOf, lowest, someOf, isExceeded, widest, turn, endsWith, avoidingFrom, avoiding}
+use Rattle.book.specs.Search.{lowestOf, someOf}
+use Rattle.flow.specs.Rules.{Law, Open, isOpen, lowest, isExceeded, widest, turn, endsWith, avoidingFrom, avoiding}
 use Rattle.flow.proofs.ChainFacts.{leaves-live, leaves-own, leaves-within, runs-step, chain-step}
 
 -- the lowest number that passes does pass, or else none passes

@@ -11,6 +11,7 @@ use mathlib.Core.Path.{_≡_}
 use Prim.Native.Nat.{ℕ, zero, suc, _+_, _-_}
 use lib.Dec.{eqb, ltb}
 use lib.ListN.{length, getD, drop}
+use Rattle.book.specs.Search.{lowestOf, someOf}
 use Rattle.book.specs.Limits.{mostLines}
 use Rattle.book.specs.Tally.{Tally, at, WellFormed}
 use Rattle.book.specs.Totals.{leaves}
@@ -34,18 +35,8 @@ Law choice =
     → Open t left a n
     → Open t left a (choice t left a walked)
 
--- the lowest of the `count` numbers from i on that passes the test, or else the number given
-abbrev pub lowestOf : (ℕ → Bool) → ℕ → ℕ → ℕ → ℕ
-lowestOf p none i zero = none
-lowestOf p none i (suc count) = cond (p i) i (lowestOf p none (i + 1) count)
-
 abbrev pub lowest : Choice
 lowest t left a walked = lowestOf (isOpen t left a) 0 0 (length t)
-
--- whether one of the `count` numbers from i on passes the test
-abbrev pub someOf : (ℕ → Bool) → ℕ → ℕ → Bool
-someOf p i zero = false
-someOf p i (suc count) = p i || someOf p (i + 1) count
 
 -- whether an open line has more tonnes left than the line n
 abbrev pub isExceeded : Tally → List ℕ → ℕ → ℕ → Bool

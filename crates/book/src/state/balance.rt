@@ -6,6 +6,7 @@ ghost use Rattle.book.specs.Faults.{checked};
 ghost use Rattle.book.specs.Limits.{mostLines, greatestAmount, accounts};
 ghost use Rattle.book.specs.Lines.{lines};
 ghost use Rattle.book.specs.Outcome.{Outcome, stopped};
+ghost use Rattle.book.specs.Tally.{WellFormed};
 ghost use Rattle.book.specs.Totals.{sideTotal, inTotal, outTotal, Balances, balanceStops, Compared};
 ghost use Rattle.book.specs.declared.table.Side.the-variants.{In, Out};
 use crate::ACCOUNTS;
@@ -77,6 +78,7 @@ impl Book {
     pub fn balance(&self) -> Result<(), Fault>
         ensures answer { λ r. ⌜ Balances (lines (now (self .entry))) r ⌝ }
         ensures stop { λ r. ⌜ ((o : Outcome) → checked r o ≡ stopped (balanceStops (lines (now (self .entry)))) o) ⌝ }
+        ensures sound { λ _. ⌜ WellFormed (lines (now (self .entry))) ⌝ }
     {
         compare(&self.in_totals(), &self.out_totals())
     }

@@ -4,6 +4,7 @@ use Rattle.book.proofs.state.Book.balance.Needs as need
 
 pub returns : need.returns
 returns c =
-    let sound = well-formed (c .args .self .now) .1 in
+    let formed = well-formed (c .args .self .now) in
+    let sound = formed .1 in
     let answer = compared-balances (lines (c .args .self .now)) sound _ _ (c .in-totals .ensures .totals) (c .out-totals .ensures .totals) (c .compare .result) (c .compare .ensures) in
-    record { answer = answer; stop = balances-stop (lines (c .args .self .now)) sound (c .compare .result) answer }
+    record { answer = answer; stop = balances-stop (lines (c .args .self .now)) sound (c .compare .result) answer; sound = formed }

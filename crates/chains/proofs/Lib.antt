@@ -1,0 +1,4 @@
+pub mod Lines
+pub mod Stops
+pub mod LineStops
+pub mod Excess
