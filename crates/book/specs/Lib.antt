@@ -7,3 +7,4 @@ pub mod Totals
 pub mod Records
 pub mod Lines
 pub mod Runs
+pub mod Overlay

@@ -5,7 +5,8 @@ use Prim.Native.Nat.{ℕ, _+_, _≤_}
 use native.Mathlib.Omega.{arith}
 use lib.ListN.{length, take, drop}
 use Rattle.std.proofs.shelf.Lists.{append-assoc, length-append, length-take-le, take-at, drop-at, drop-drop, take-append-drop}
-use Rattle.sheet.specs.Page.{laid, over, Put}
+use Rattle.book.specs.Overlay.{laid, over}
+use Rattle.sheet.specs.Page.{Put}
 
 module _ (page : List ℕ) (at : ℕ) (a b : List ℕ) (fits : at + length a ≤ length page) where
   abbrev front : List ℕ

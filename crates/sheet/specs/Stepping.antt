@@ -8,7 +8,7 @@ use denote.Ref.{now}
 use lib.ListN.{length}
 use Rattle.book.specs.Lines.{lines}
 use Rattle.book.specs.Outcome.{sheet, refuses}
-use Rattle.sheet.specs.Page.{over}
+use Rattle.book.specs.Overlay.{over}
 use Rattle.sheet.specs.Reading.{refusal}
 use Rattle.sheet.specs.Statements.{State, shortestPage, Prints, Over, Rest}
 use Rattle.sheet.specs.declared.command.Fault.{Fault}

@@ -4,7 +4,7 @@ ghost use Prim.Native.Nat.{_≤_};
 ghost use lib.ListN.{length};
 ghost use Rattle.book.specs.Outcome.{Outcome, stopped, settled};
 ghost use Rattle.sheet.specs.Commands.{meaning, bytes, Fit, Printable};
-ghost use Rattle.sheet.specs.Page.{over};
+ghost use Rattle.book.specs.Overlay.{over};
 ghost use Rattle.sheet.specs.Reading.{Reads-back};
 ghost use Rattle.sheet.specs.Writing.{longestCommand, noteStops, operandStops, writing, written, checked};
 ghost use Rattle.std.specs.Vec.{made};

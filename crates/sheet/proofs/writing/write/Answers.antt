@@ -5,7 +5,7 @@ use lib.ListN.{length}
 use Rattle.book.specs.Outcome.{Outcome, answers, stopped, settled}
 use Rattle.std.proofs.shelf.Tests.{cond-false, le-ltb}
 use Rattle.sheet.specs.Commands.{meaning, bytes}
-use Rattle.sheet.specs.Page.{over}
+use Rattle.book.specs.Overlay.{over}
 use Rattle.sheet.specs.Writing.{writing, roomStops}
 use Rattle.sheet.proofs.Codec.{reads-back}
 use Rattle.sheet.proofs.writing.write.Needs as need

@@ -1,0 +1,13 @@
+// Dividing a book under any lawful rule.
+mod rules;
+
+pub use rules::Rule;
+
+// row i stands at entry ROW_STRIDE × i
+pub const ROW_STRIDE: usize = 64;
+
+// the table of rows needs so many entries
+pub const TABLE_ENTRIES: usize = 16_384;
+
+// the table of tonnes needs so many
+pub const TABLE_TONNES: usize = 256;
