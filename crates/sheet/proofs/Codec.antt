@@ -11,8 +11,8 @@ use Rattle.std.proofs.shelf.Elements.{all-drop}
 use Rattle.std.proofs.shelf.Lists.{length-take-le, length-drop, length-append, drop-at, take-at, take-all}
 use Rattle.std.proofs.shelf.Tests.{cond-both, cond-true, cond-false, le-ltb, lt-ltb, ltb-false, eqb-true, or-from, or-parts}
 use Rattle.std.specs.shelf.Lists.{All, leading}
-use Rattle.sheet.specs.Commands.{longestSheet, noteLength, Meaning, post, amend, strike, clear, note, bytes, big2, big4, printable, Fit}
-use Rattle.sheet.specs.Reading.{Reading, end, read, refused, value2, value4, command, postAt, amendAt, strikeAt, noteAt, whole, clean, reading, Spelled, Reads-back}
+use Rattle.sheet.specs.Commands.{longestSheet, noteLength, lastRule, Meaning, post, amend, strike, clear, note, list, divide, bytes, big2, big4, printable, Fit}
+use Rattle.sheet.specs.Reading.{Reading, end, read, refused, value2, value4, command, postAt, amendAt, strikeAt, noteAt, listAt, divideAt, whole, clean, reading, Spelled, Reads-back}
 
 -- numbers
 big2-value2 : (a b : ℕ) → a < 256 → b < 256 → big2 (a * 256 + b) ≡ a ∷ b ∷ []
@@ -115,6 +115,24 @@ module _ (p : ℕ) where
       two [] bounded long = absurd (omega arith)
       two (f ∷ []) bounded long = absurd (omega arith)
 
+  begun-list : (bs : List ℕ) → All (λ b. b < 256) bs → Begun p (0x4B ∷ bs) (listAt p bs)
+  begun-list bs bounded = whole-or-cut p 4 0x4B bs _ (four bs bounded)
+    where
+      four : (bs : List ℕ) → All (λ b. b < 256) bs → 4 ≤ length bs → Begun p (0x4B ∷ bs) (read (list (value4 bs)) (p + 5))
+      four (a ∷ b ∷ c ∷ d ∷ bs) (ha, (hb, (hc, (hd, rest)))) long = (omega arith, refl, omega arith, ap (λ z. 0x4B ∷ z) (sym (big4-value4 a b c d ha hb hc hd)))
+      four [] bounded long = absurd (omega arith)
+      four (a ∷ []) bounded long = absurd (omega arith)
+      four (a ∷ b ∷ []) bounded long = absurd (omega arith)
+      four (a ∷ b ∷ c ∷ []) bounded long = absurd (omega arith)
+
+  begun-divide : (bs : List ℕ) → Begun p (0x44 ∷ bs) (divideAt p bs)
+  begun-divide bs = whole-or-cut p 1 0x44 bs _ (one bs)
+    where
+      one : (bs : List ℕ) → 1 ≤ length bs → Begun p (0x44 ∷ bs) (cond (ltb lastRule (getD bs 0 0)) (refused 16 ((p + 1) ∷ [])) (read (divide (getD bs 0 0)) (p + 2)))
+      one (r ∷ bs) long =
+          cond-both (ltb lastRule r) _ _ (Begun p (0x44 ∷ r ∷ bs)) (λ _. omega arith) (λ e. (ltb-false lastRule r e, refl, omega arith, refl))
+      one [] long = absurd (omega arith)
+
   begun-note : (bs : List ℕ) → Begun p (0x4E ∷ bs) (noteAt p bs)
   begun-note bs =
       whole-or-cut p noteLength 0x4E bs _ (λ long.
@@ -130,7 +148,9 @@ module _ (p : ℕ) where
       (λ _. cond-both (eqb byte 0x53) _ _ (Begun p (byte ∷ bs)) (at-byte 0x53 (strikeAt p bs) (begun-strike bs (bounded .1)))
       (λ _. cond-both (eqb byte 0x43) _ _ (Begun p (byte ∷ bs)) (at-byte 0x43 (read clear (p + 1)) (tt, refl, omega arith, refl))
       (λ _. cond-both (eqb byte 0x4E) _ _ (Begun p (byte ∷ bs)) (at-byte 0x4E (noteAt p bs) (begun-note bs))
-      (λ _. omega arith)))))
+      (λ _. cond-both (eqb byte 0x4B) _ _ (Begun p (byte ∷ bs)) (at-byte 0x4B (listAt p bs) (begun-list bs (bounded .1)))
+      (λ _. cond-both (eqb byte 0x44) _ _ (Begun p (byte ∷ bs)) (at-byte 0x44 (divideAt p bs) (begun-divide bs))
+      (λ _. omega arith)))))))
     where
       at-byte : (n : ℕ) (r : Reading) → Begun p (n ∷ bs) r → eqb byte n ≡ true → Begun p (byte ∷ bs) r
       at-byte n r h e = subst (λ b. Begun p (b ∷ bs) r) (sym (eqb-true byte n e)) h
@@ -166,6 +186,9 @@ back p (note text) fit rest =
     at-whole p noteLength (text ++ rest) _ (omega (arith, length-append text rest, long))
     ∙ (ap (λ z. cond (ltb (clean z) noteLength) (refused 15 ((p + 1 + clean z) ∷ [])) (read (note z) (p + 17))) cut
     ∙ (cond-false _ _ _ (le-ltb (clean text) noteLength (omega (arith, long, clean-all text (fit .1)))) ∙ ap (λ k. read (note text) k) (omega (arith, long))))
+
+back p (list floor) fit rest = at-whole p 4 (big4 floor ++ rest) _ (omega arith) ∙ ap (λ n. read (list n) (p + 5)) (value4-big4 floor fit)
+back p (divide rule) fit rest = at-whole p 1 (rule ∷ rest) _ (omega arith) ∙ cond-false _ _ _ (le-ltb lastRule rule fit)
 
 pub reads-back : (m : Meaning) → Fit m → Reads-back m
 reads-back m fit front rest short =

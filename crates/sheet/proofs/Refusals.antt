@@ -8,7 +8,7 @@ use Rattle.book.specs.declared.entries.Fault.the-variants.{Full, AccountTooHigh
 use Rattle.sheet.specs.Reading.{number as sheet-number, carries as sheet-carries}
 use Rattle.sheet.specs.Statements.{detail}
 use Rattle.sheet.specs.declared.command.Fault.{Fault as SheetFault}
-use Rattle.sheet.specs.declared.command.Fault.the-variants.{OutOfRange, UnknownCommand, CutOff, NoteByte, TooShort}
+use Rattle.sheet.specs.declared.command.Fault.the-variants.{OutOfRange, UnknownCommand, CutOff, NoteByte, RuleByte, TooShort, TablesTooSmall}
 
 pub no-detail : (f : Fault) → ((a i o : ℕ) → f ≡ Unbalanced a i o → ⊥) → detail (number f) (carries f) ≡ []
 no-detail Full other = refl
@@ -24,4 +24,6 @@ no-sheet-detail OutOfRange = refl
 no-sheet-detail (UnknownCommand place) = refl
 no-sheet-detail (CutOff place) = refl
 no-sheet-detail (NoteByte place) = refl
+no-sheet-detail (RuleByte place) = refl
 no-sheet-detail TooShort = refl
+no-sheet-detail TablesTooSmall = refl

@@ -10,13 +10,13 @@
 use mathlib.Core.Bool.{Bool, true, _&&_}
 use mathlib.Core.List.{List, [], _∷_, _++_}
 use mathlib.Core.Path.{_≡_}
-use Prim.Native.Nat.{ℕ, _/_, _%_, _^_, _<_}
+use Prim.Native.Nat.{ℕ, _/_, _%_, _^_, _<_, _≤_}
 use denote.Ref.{now}
 use lib.Dec.{leb}
 use lib.ListN.{length}
 use Rattle.std.specs.shelf.Lists.{All}
 use Rattle.sheet.specs.declared.command.Command.{Command}
-use Rattle.sheet.specs.declared.command.Command.the-variants.{Post, Amend, Strike, Clear, Note}
+use Rattle.sheet.specs.declared.command.Command.the-variants.{Post, Amend, Strike, Clear, Note, List as ListCommand, Divide}
 
 abbrev pub longestSheet : ℕ
 longestSheet = 32_768
@@ -24,12 +24,18 @@ longestSheet = 32_768
 abbrev pub noteLength : ℕ
 noteLength = 16
 
+-- the rules of a divide command are 0 and 1
+abbrev pub lastRule : ℕ
+lastRule = 1
+
 pub data Meaning : Type 0 where
   post : ℕ → ℕ → ℕ → Meaning
   amend : ℕ → ℕ → Meaning
   strike : ℕ → Meaning
   clear : Meaning
   note : List ℕ → Meaning
+  list : ℕ → Meaning
+  divide : ℕ → Meaning
 
 abbrev pub meaning : Command → Meaning
 meaning (Post from to amount) = post from to amount
@@ -37,6 +43,8 @@ meaning (Amend line amount) = amend line amount
 meaning (Strike line) = strike line
 meaning Clear = clear
 meaning (Note text) = note (now text)
+meaning (ListCommand floor) = list floor
+meaning (Divide rule) = divide rule
 
 abbrev pub big2 : ℕ → List ℕ
 big2 n = (n / 256 % 256) ∷ (n % 256) ∷ []
@@ -50,6 +58,8 @@ bytes (amend line amount) = 0x41 ∷ (big2 line ++ big4 amount)
 bytes (strike line) = 0x53 ∷ big2 line
 bytes clear = 0x43 ∷ []
 bytes (note text) = 0x4E ∷ text
+bytes (list floor) = 0x4B ∷ big4 floor
+bytes (divide rule) = 0x44 ∷ rule ∷ []
 
 abbrev pub printable : ℕ → Bool
 printable b = leb 0x20 b && leb b 0x7E
@@ -63,3 +73,5 @@ Fit (amend line amount) = (line < 2 ^ 16) × (amount < 2 ^ 32)
 Fit (strike line) = line < 2 ^ 16
 Fit clear = Unit {0}
 Fit (note text) = Printable text
+Fit (list floor) = floor < 2 ^ 32
+Fit (divide rule) = rule ≤ lastRule

@@ -17,10 +17,10 @@ use Rattle.std.specs.declared.option.Option.the-variants.{Some, None}
 use Rattle.std.specs.declared.result.Result.{Result}
 use Rattle.std.specs.declared.result.Result.the-variants.{Ok, Err}
 use Rattle.std.specs.shelf.Lists.{leading}
-use Rattle.book.specs.Outcome.{Layer, sheet, Outcome, refuses}
-use Rattle.sheet.specs.Commands.{longestSheet, noteLength, Meaning, post, amend, strike, clear, note, meaning, bytes, printable, Fit}
+use Rattle.book.specs.Outcome.{Layer, chain, sheet, Outcome, refuses}
+use Rattle.sheet.specs.Commands.{longestSheet, noteLength, lastRule, Meaning, post, amend, strike, clear, note, list, divide, meaning, bytes, printable, Fit}
 use Rattle.sheet.specs.declared.command.Fault.{Fault}
-use Rattle.sheet.specs.declared.command.Fault.the-variants.{OutOfRange, UnknownCommand, CutOff, NoteByte, TooShort}
+use Rattle.sheet.specs.declared.command.Fault.the-variants.{OutOfRange, UnknownCommand, CutOff, NoteByte, RuleByte, TooShort, TablesTooSmall}
 use Rattle.sheet.specs.declared.command.Found.{Found}
 
 pub data Reading : Type 0 where
@@ -56,6 +56,12 @@ noteAt p bs =
     whole p noteLength bs
     (cond (ltb (clean (take noteLength bs)) noteLength) (refused 15 ((p + 1 + clean (take noteLength bs)) ∷ [])) (read (note (take noteLength bs)) (p + 17)))
 
+abbrev pub listAt : ℕ → List ℕ → Reading
+listAt p bs = whole p 4 bs (read (list (value4 bs)) (p + 5))
+
+abbrev pub divideAt : ℕ → List ℕ → Reading
+divideAt p bs = whole p 1 bs (cond (ltb lastRule (getD bs 0 0)) (refused 16 ((p + 1) ∷ [])) (read (divide (getD bs 0 0)) (p + 2)))
+
 abbrev pub command : ℕ → List ℕ → Reading
 command p [] = end
 command p (byte ∷ bs) =
@@ -64,7 +70,9 @@ command p (byte ∷ bs) =
     (cond (eqb byte 0x53) (strikeAt p bs)
     (cond (eqb byte 0x43) (read clear (p + 1))
     (cond (eqb byte 0x4E) (noteAt p bs)
-    (refused 13 (p ∷ []))))))
+    (cond (eqb byte 0x4B) (listAt p bs)
+    (cond (eqb byte 0x44) (divideAt p bs)
+    (refused 13 (p ∷ []))))))))
 
 abbrev pub reading : List ℕ → ℕ → Reading
 reading s p = cond (ltb longestSheet (length s) || ltb (length s) p) (refused 12 []) (command p (drop p s))
@@ -74,17 +82,30 @@ number OutOfRange = 12
 number (UnknownCommand place) = 13
 number (CutOff place) = 14
 number (NoteByte place) = 15
+number (RuleByte place) = 16
 number TooShort = 17
+number TablesTooSmall = 10
 
 abbrev pub carries : Fault → List ℕ
 carries OutOfRange = []
 carries (UnknownCommand place) = place ∷ []
 carries (CutOff place) = place ∷ []
 carries (NoteByte place) = place ∷ []
+carries (RuleByte place) = place ∷ []
 carries TooShort = []
+carries TablesTooSmall = []
+
+abbrev pub layerOf : Fault → Layer
+layerOf OutOfRange = sheet
+layerOf (UnknownCommand place) = sheet
+layerOf (CutOff place) = sheet
+layerOf (NoteByte place) = sheet
+layerOf (RuleByte place) = sheet
+layerOf TooShort = sheet
+layerOf TablesTooSmall = chain
 
 abbrev pub refusal : Fault → Outcome
-refusal e = refuses sheet (number e) (carries e)
+refusal e = refuses (layerOf e) (number e) (carries e)
 
 -- the code's answers as readings
 abbrev pub found : Result Found Fault → Reading

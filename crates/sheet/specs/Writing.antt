@@ -12,7 +12,7 @@ use lib.ListN.{length}
 use Rattle.std.specs.declared.result.Result.{Result}
 use Rattle.std.specs.declared.result.Result.the-variants.{Ok, Err}
 use Rattle.book.specs.Outcome.{sheet, Outcome, answers, Stop, stop, stopped}
-use Rattle.sheet.specs.Commands.{noteLength, Meaning, post, amend, strike, clear, note, bytes}
+use Rattle.sheet.specs.Commands.{noteLength, lastRule, Meaning, post, amend, strike, clear, note, list, divide, bytes}
 use Rattle.sheet.specs.Reading.{clean, refusal}
 use Rattle.sheet.specs.declared.command.Fault.{Fault}
 
@@ -32,6 +32,8 @@ operandStops (amend line amount) = []
 operandStops (strike line) = []
 operandStops clear = []
 operandStops (note text) = noteStops text
+operandStops (list floor) = []
+operandStops (divide rule) = stop (ltb lastRule rule) sheet 16 (1 ∷ []) ∷ []
 
 abbrev pub roomStops : ℕ → List Stop
 roomStops room = stop (ltb room longestCommand) sheet 17 [] ∷ []

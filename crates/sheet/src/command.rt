@@ -13,6 +13,13 @@ pub const CLEAR: u8 = 0x43;
 
 pub const NOTE: u8 = 0x4E;
 
+pub const LIST: u8 = 0x4B;
+
+pub const DIVIDE: u8 = 0x44;
+
+// the highest rule of a divide command
+pub const LAST_RULE: u8 = 1;
+
 // A command by its operands. The text of a note is that part of the sheet itself.
 #[derive(Clone, Copy)]
 pub enum Command<'a> {
@@ -21,6 +28,8 @@ pub enum Command<'a> {
     Strike { line: u16 },
     Clear,
     Note(&'a [u8]),
+    List { floor: u32 },
+    Divide { rule: u8 },
 }
 
 // A command that was read, and the place after it.
@@ -40,8 +49,12 @@ pub enum Fault {
     CutOff(usize),
     // the byte at that place cannot stand in a note
     NoteByte(usize),
+    // the byte at that place names no rule
+    RuleByte(usize),
     // the page or the buffer is too short
     TooShort,
+    // a lent table is too small
+    TablesTooSmall,
 }
 
 impl Fault {
@@ -54,7 +67,9 @@ impl Fault {
             Fault::UnknownCommand(_) => 13,
             Fault::CutOff(_) => 14,
             Fault::NoteByte(_) => 15,
+            Fault::RuleByte(_) => 16,
             Fault::TooShort => 17,
+            Fault::TablesTooSmall => 10,
         }
     }
 }

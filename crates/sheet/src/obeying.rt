@@ -29,6 +29,8 @@ pub fn obey(book: &mut Book, command: Command<'_>, place: usize, page: &mut [u8]
             say(page, b"cleared")
         }
         Command::Note(text) => say_text(page, b"note ", text),
+        Command::List { .. } => say(page, b""),
+        Command::Divide { .. } => say(page, b""),
     }
 }
 

@@ -4,11 +4,14 @@ ghost use mathlib.Core.List.{_∷_};
 ghost use Prim.Native.Nat.{_+_, _≤_};
 ghost use lib.ListN.{length};
 ghost use Rattle.sheet.specs.Commands.{longestSheet, printable};
-ghost use Rattle.sheet.specs.Reading.{reading, command, postAt, amendAt, strikeAt, noteAt, clean, seen, found, Spelled};
+ghost use Rattle.sheet.specs.Reading.{reading, command, postAt, amendAt, strikeAt, noteAt, listAt, divideAt, clean, seen, found, Spelled};
 use crate::LONGEST_SHEET;
 use crate::NOTE_LENGTH;
 use crate::command::AMEND;
 use crate::command::CLEAR;
+use crate::command::DIVIDE;
+use crate::command::LAST_RULE;
+use crate::command::LIST;
 use crate::command::Command;
 use crate::command::Fault;
 use crate::command::Found;
@@ -53,6 +56,8 @@ fn read_command(byte: u8, operands: &[u8], place: usize) -> Result<Found<'_>, Fa
             after: place + 1,
         }),
         NOTE => read_note(operands, place),
+        LIST => read_list(operands, place),
+        DIVIDE => read_divide(operands, place),
         _ => Err(Fault::UnknownCommand(place)),
     }
 }
@@ -119,6 +124,36 @@ fn read_note(operands: &[u8], place: usize) -> Result<Found<'_>, Fault>
     Ok(Found {
         command: Command::Note(text),
         after: place + 1 + NOTE_LENGTH,
+    })
+}
+
+fn read_list(operands: &[u8], place: usize) -> Result<Found<'_>, Fault>
+    requires { ⌜ place ≤ longestSheet ⌝ }
+    ensures { λ r. ⌜ found r ≡ listAt place (now (operands .entry)) ⌝ }
+{
+    let [a, b, c, d, ..] = operands else {
+        return Err(Fault::CutOff(place));
+    };
+    let floor = u32::from_be_bytes([*a, *b, *c, *d]);
+    Ok(Found {
+        command: Command::List { floor },
+        after: place + 5,
+    })
+}
+
+fn read_divide(operands: &[u8], place: usize) -> Result<Found<'_>, Fault>
+    requires { ⌜ place ≤ longestSheet ⌝ }
+    ensures { λ r. ⌜ found r ≡ divideAt place (now (operands .entry)) ⌝ }
+{
+    let [rule, ..] = operands else {
+        return Err(Fault::CutOff(place));
+    };
+    if *rule > LAST_RULE {
+        return Err(Fault::RuleByte(place + 1));
+    }
+    Ok(Found {
+        command: Command::Divide { rule: *rule },
+        after: place + 2,
     })
 }
 

@@ -1,14 +1,17 @@
 // The lines of a statement, written at the start of a page.
-ghost use mathlib.Core.List.{_++_};
-ghost use Prim.Native.Nat.{_+_, _≤_};
+ghost use mathlib.Core.List.{_∷_, _++_};
+ghost use Prim.Native.Nat.{_+_, _*_, _<_, _≤_};
 ghost use lib.Chars.{codes};
 ghost use lib.ListN.{length};
 ghost use Rattle.book.specs.Faults.{number, carries};
+ghost use Rattle.book.specs.Limits.{mostLines};
 ghost use Rattle.book.specs.Outcome.{book, sheet};
 ghost use Rattle.sheet.specs.Page.{Put};
 ghost use Rattle.sheet.specs.Reading.{number as sheet-number, carries as sheet-carries};
-ghost use Rattle.sheet.specs.Statements.{shortestPage, textLine, detail, refusalHead, refusalText};
+ghost use Rattle.sheet.specs.Statements.{shortestPage, textLine, detail, refusalHead, refusalText, chainText, numbersText};
+ghost use Rattle.flow.specs.Chains.{longestChain};
 ghost use Rattle.std.specs.Written.{decimal};
+ghost use Rattle.std.specs.shelf.Lists.{All};
 use crate::command::Fault;
 use crate::page::put;
 use crate::page::put_decimal;
@@ -116,4 +119,42 @@ fn put_totals(page: &mut [u8], at: usize, account: u8, entering: u32, leaving: u
     let d = put_decimal(page, c, entering as usize);
     let e = put(page, d, b" out ");
     put_decimal(page, e, leaving as usize)
+}
+
+// A line of fixed words, a number of tonnes and the lines of a chain.
+pub fn say_chain(page: &mut [u8], words: &[u8], tonnes: u64, chain: &[u16]) -> usize
+    requires room { ⌜ shortestPage ≤ length (now page) ⌝ }
+    requires short { ⌜ length (now words) ≤ 8 ⌝ ∗ ⌜ length (now chain) ≤ longestChain ⌝ }
+    requires posted { ⌜ All (λ n. n < mostLines) (now chain) ⌝ }
+    ensures { λ r. ⌜ Put (now (page .entry)) 0 (textLine (chainText (now (words .entry)) tonnes (now (chain .entry)))) (now (page .exit)) r ⌝ }
+{
+    let after = put(page, 0, words);
+    let colon = put_decimal(page, after, tonnes as usize);
+    let first = put(page, colon, b":");
+    let end = put_numbers(page, first, chain);
+    put(page, end, b"\n")
+}
+
+// Each number behind a space.
+fn put_numbers(page: &mut [u8], at: usize, numbers: &[u16]) -> usize
+    requires room { ⌜ at + 4 * length (now numbers) + 24 ≤ length (now page) ⌝ }
+    requires posted { ⌜ All (λ n. n < mostLines) (now numbers) ⌝ }
+    ensures put { λ r. ⌜ Put (now (page .entry)) at (numbersText (now (numbers .entry))) (now (page .exit)) r ⌝ }
+    ensures short { λ r. ⌜ r ≤ at + 4 * length (now (numbers .entry)) ⌝ }
+{
+    let mut end = at;
+    for i in 0..numbers.len() {
+        end = put_number(page, end, numbers[i]);
+    }
+    end
+}
+
+fn put_number(page: &mut [u8], at: usize, number: u16) -> usize
+    requires room { ⌜ at + 24 ≤ length (now page) ⌝ }
+    requires posted { ⌜ number < mostLines ⌝ }
+    ensures put { λ r. ⌜ Put (now (page .entry)) at (32 ∷ decimal number) (now (page .exit)) r ⌝ }
+    ensures short { λ r. ⌜ r ≤ at + 4 ⌝ }
+{
+    let digits = put(page, at, b" ");
+    put_decimal(page, digits, number as usize)
 }

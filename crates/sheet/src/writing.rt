@@ -3,7 +3,7 @@ ghost use mathlib.Core.Path.{_≡_};
 ghost use Prim.Native.Nat.{_≤_};
 ghost use lib.ListN.{length};
 ghost use Rattle.book.specs.Outcome.{Outcome, stopped, settled};
-ghost use Rattle.sheet.specs.Commands.{meaning, bytes, Fit, Printable};
+ghost use Rattle.sheet.specs.Commands.{meaning, bytes, divide, lastRule, Fit, Printable};
 ghost use Rattle.book.specs.Overlay.{over};
 ghost use Rattle.sheet.specs.Reading.{Reads-back};
 ghost use Rattle.sheet.specs.Writing.{longestCommand, noteStops, operandStops, writing, written, checked};
@@ -12,6 +12,9 @@ use crate::LONGEST_COMMAND;
 use crate::NOTE_LENGTH;
 use crate::command::AMEND;
 use crate::command::CLEAR;
+use crate::command::DIVIDE;
+use crate::command::LAST_RULE;
+use crate::command::LIST;
 use crate::command::Command;
 use crate::command::Fault;
 use crate::command::NOTE;
@@ -43,6 +46,8 @@ fn check_operands(command: &Command<'_>) -> Result<(), Fault>
         Command::Strike { line } => Ok(()),
         Command::Clear => Ok(()),
         Command::Note(text) => check_note(text),
+        Command::List { floor } => Ok(()),
+        Command::Divide { rule } => check_rule(rule),
     }
 }
 
@@ -56,6 +61,16 @@ fn check_note(text: &[u8]) -> Result<(), Fault>
     let clean = printable_bytes(text);
     if clean < NOTE_LENGTH {
         return Err(Fault::NoteByte(clean));
+    }
+    Ok(())
+}
+
+fn check_rule(rule: u8) -> Result<(), Fault>
+    ensures stop { λ r. ⌜ ((o : Outcome) → checked r o ≡ stopped (operandStops (divide rule)) o) ⌝ }
+    ensures fit { λ r. ⌜ made r (λ _. rule ≤ lastRule) ⌝ }
+{
+    if rule > LAST_RULE {
+        return Err(Fault::RuleByte(1));
     }
     Ok(())
 }
@@ -85,5 +100,10 @@ fn put_command(command: &Command<'_>, buffer: &mut [u8]) -> usize
             let after = put(buffer, 0, &[NOTE]);
             put(buffer, after, text)
         }
+        Command::List { floor } => {
+            let [a, b, c, d] = floor.to_be_bytes();
+            put(buffer, 0, &[LIST, a, b, c, d])
+        }
+        Command::Divide { rule } => put(buffer, 0, &[DIVIDE, rule]),
     }
 }

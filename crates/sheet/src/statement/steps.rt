@@ -77,7 +77,12 @@ impl<'a> Statement<'a> {
                 self.place = place + LONGEST_COMMAND;
                 say_sheet_refusal(page, fault, place)
             }
-            Fault::TooShort => {
+            Fault::RuleByte(_) => {
+                let place = self.place;
+                self.place = place + 2;
+                say_sheet_refusal(page, fault, place)
+            }
+            Fault::TooShort | Fault::TablesTooSmall => {
                 let place = self.place;
                 self.place = place + LONGEST_COMMAND;
                 say_sheet_refusal(page, fault, place)
