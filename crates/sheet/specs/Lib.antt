@@ -5,3 +5,5 @@ pub mod Writing
 pub mod Statements
 pub mod Stepping
 pub mod Running
+pub mod LastChains
+pub mod Obeying

@@ -1,5 +1,6 @@
 // Sheets of byte commands, read and written back exactly, and the statement of a sheet.
 mod command;
+mod last;
 mod obeying;
 mod page;
 mod reading;

@@ -1,6 +1,8 @@
-// A statement of a sheet: it keeps its own book, and each step prints its next line.
+// A statement of a sheet: it keeps its own book and the last chain listed, and each step prints its next line.
+use crate::last::LastChain;
 use book::Book;
 
+mod commands;
 mod runs;
 mod steps;
 
@@ -10,4 +12,7 @@ pub struct Statement<'a> {
     place: usize,
     ended: bool,
     book: Book,
+    // of a list or divide command that is being printed: so many of its lines are printed
+    count: usize,
+    last: LastChain,
 }
