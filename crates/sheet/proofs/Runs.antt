@@ -2,7 +2,7 @@
 use mathlib.Core.Bool.{Bool, true, false}
 use mathlib.Core.List.{List, [], _∷_, _++_}
 use mathlib.Core.Path.{_≡_, refl, sym, ap, subst, _∙_}
-use Prim.Native.Nat.{ℕ, _+_}
+use Prim.Native.Nat.{ℕ, _+_, _<_}
 use native.Mathlib.Omega.{arith}
 use lib.ListN.{length}
 use Rattle.std.proofs.shelf.Lists.{append-nil, append-assoc, length-push, joined-more}
@@ -50,9 +50,9 @@ module _ (a b c : State) (before middle after : List ℕ) (n most : ℕ) (run : 
     law = λ ls rest. rest-before a b (run .printed) ls (run .steps) (subst (λ z. Rest z ls) same-state rest);
   }
 
-  pub ran-over : (v : Bool) → v ≡ true → Added b middle (Ok v) c after → Ran a before most (Ok true) c after
-  ran-over true is (over, same-state, same-output) = stays (Ok true) same-state same-output (subst Over (sym same-state) over)
-  ran-over false is added = absurd (both-ways false refl is)
+  pub ran-over : n < most → (v : Bool) → v ≡ true → Added b middle (Ok v) c after → Ran a before most (Ok true) c after
+  ran-over fewer true is (over, same-state, same-output) = stays (Ok true) same-state same-output (omega (arith, run .count), subst Over (sym same-state) over)
+  ran-over fewer false is added = absurd (both-ways false refl is)
 
   pub running-on : (v : Bool) → v ≡ false → Added b middle (Ok v) c after → Running a before (n + 1) c after
   running-on true is added = absurd (both-ways true is refl)

@@ -5,7 +5,7 @@
 use mathlib.Core.Bool.{Bool, true, false}
 use mathlib.Core.List.{List, _++_}
 use mathlib.Core.Path.{_≡_}
-use Prim.Native.Nat.{ℕ, _≤_}
+use Prim.Native.Nat.{ℕ, _<_}
 use lib.ListN.{length}
 use Rattle.sheet.specs.Statements.{State, Prints, Over, Steps, Rest}
 use Rattle.std.specs.declared.alloc.AllocError.{AllocError}
@@ -24,7 +24,7 @@ Added a before (Err e) b after = (b ≡ a) × (after ≡ before)
 -- how a run stopped: at the end of the statement, after as many steps as were asked for, or for want of memory
 abbrev pub Stopped : ℕ → State → List (List ℕ) → Result Bool AllocError → Type 0
 Stopped most b ls (Ok false) = length ls ≡ most
-Stopped most b ls (Ok true) = Over b
+Stopped most b ls (Ok true) = (length ls < most) × Over b
 Stopped most b ls (Err e) = Unit {0}
 
 -- the lines printed lead from one state to the other, so that they, and the rest after them, are the rest of the statement before

@@ -10,7 +10,7 @@ use crate::statement::Statement;
 use std::alloc::AllocError;
 
 impl<'a> Statement<'a> {
-    // Makes as many steps as are asked for, or fewer to the end, adds every line to the output, and answers whether the statement is over.
+    // Makes as many steps as are asked for and adds every line to the output; answers true where the end came before.
     pub fn run(&mut self, out: &mut Vec<u8>, most: usize) -> Result<bool, AllocError>
         ensures { λ r. ⌜ Ran (state (now (self .entry))) (vec-items (now (out .entry))) most r (state (now (self .exit))) (vec-items (now (out .exit))) ⌝ }
     {

@@ -10,7 +10,7 @@ returns-in-Break-add-line c =
     ran-refused _ _ _ _ _ _ _ _ (c .loop .inv .1) (c .from-residual .result) (p .0) (p .1) (c .in-Break-add-line .ensures tt)
 
 pub returns-then-branch : need.returns-then-branch
-returns-then-branch c = ran-over _ _ _ _ _ _ _ _ (c .loop .inv .1) _ (c .if-branch .taken) (c .in-Continue-add-line .ensures tt)
+returns-then-branch c = ran-over _ _ _ _ _ _ _ (c .args .most) (c .loop .inv .1) (c .loop-test .taken) _ (c .if-branch .taken) (c .in-Continue-add-line .ensures tt)
 
 pub loop-again : need.loop-again
 loop-again c = (omega (arith, c .add-line .kept .page, c .loop .inv .0), running-on _ _ _ _ _ _ _ (c .args .most) (c .loop .inv .1) _ (c .if-branch .left) (c .in-Continue-add-line .ensures tt))
