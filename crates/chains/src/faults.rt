@@ -1,4 +1,6 @@
 // Why a question about chains is refused.
+ghost use mathlib.Core.Path.{_≡_};
+ghost use Rattle.chains.specs.Faults.{number};
 use book::Fault as BookFault;
 
 #[derive(Clone, Copy)]
@@ -15,4 +17,20 @@ pub enum Fault {
     NoFloor,
     // the book's own fault
     Book(BookFault),
+}
+
+impl Fault {
+    // The refusal's number.
+    pub fn number(&self) -> u8
+        ensures { λ r. ⌜ r ≡ number (now (self .entry)) ⌝ }
+    {
+        match self {
+            Fault::Line(_, fault) => fault.number(),
+            Fault::Gap(_) => 9,
+            Fault::Length(_) => 8,
+            Fault::TooSmall => 10,
+            Fault::NoFloor => 11,
+            Fault::Book(fault) => fault.number(),
+        }
+    }
 }
