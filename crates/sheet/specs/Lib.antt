@@ -4,6 +4,7 @@ pub mod Page
 pub mod Writing
 pub mod Statements
 pub mod Stepping
-pub mod Running
 pub mod LastChains
 pub mod Obeying
+pub mod Rows
+pub mod Running

@@ -4,6 +4,7 @@ mod last;
 mod obeying;
 mod page;
 mod reading;
+mod rows;
 mod statement;
 mod text;
 mod writing;

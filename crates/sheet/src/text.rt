@@ -1,6 +1,7 @@
 // The lines of a statement, written at the start of a page.
 ghost use mathlib.Core.List.{_∷_, _++_};
-ghost use Prim.Native.Nat.{_+_, _*_, _<_, _≤_};
+ghost use mathlib.Core.Path.{_≡_};
+ghost use Prim.Native.Nat.{ℕ, _+_, _*_, _<_, _≤_};
 ghost use lib.Chars.{codes};
 ghost use lib.ListN.{length};
 ghost use Rattle.book.specs.Faults.{number, carries};
@@ -9,6 +10,9 @@ ghost use Rattle.book.specs.Outcome.{book, sheet};
 ghost use Rattle.sheet.specs.Page.{Put};
 ghost use Rattle.sheet.specs.Reading.{number as sheet-number, carries as sheet-carries};
 ghost use Rattle.sheet.specs.Statements.{shortestPage, textLine, detail, refusalHead, refusalText, chainText, numbersText};
+ghost use Rattle.book.specs.declared.entries.Fault.{Fault as RawFault};
+ghost use Rattle.chains.specs.Faults.{layerOf as chain-layer, number as chain-number, carries as chain-carries};
+ghost use Rattle.chains.specs.declared.faults.Fault.the-variants.{Line};
 ghost use Rattle.flow.specs.Chains.{longestChain};
 ghost use Rattle.std.specs.Written.{decimal};
 ghost use Rattle.std.specs.shelf.Lists.{All};
@@ -16,6 +20,7 @@ use crate::command::Fault;
 use crate::page::put;
 use crate::page::put_decimal;
 use book::Fault as BookFault;
+use chains::Fault as ChainFault;
 
 // A line of fixed words.
 pub fn say(page: &mut [u8], words: &[u8]) -> usize
@@ -157,4 +162,19 @@ fn put_number(page: &mut [u8], at: usize, number: u16) -> usize
 {
     let digits = put(page, at, b" ");
     put_decimal(page, digits, number as usize)
+}
+
+// A refused question about chains, by the place of its command.
+pub fn say_chain_refusal(page: &mut [u8], fault: &ChainFault, place: usize) -> usize
+    requires room { ⌜ shortestPage ≤ length (now page) ⌝ }
+    requires whole { ⌜ ((at : ℕ) (of : RawFault) → now fault ≡ Line at of → ⊥) ⌝ }
+    ensures { λ r. ⌜ Put (now (page .entry)) 0 (textLine (refusalText (chain-layer (now (fault .entry))) (chain-number (now (fault .entry))) (chain-carries (now (fault .entry))) place)) (now (page .exit)) r ⌝ }
+{
+    match *fault {
+        ChainFault::Book(of) => say_book_refusal(page, &of, place),
+        _ => {
+            let end = put_head(page, b"chain", fault.number(), place);
+            put(page, end, b"\n")
+        }
+    }
 }

@@ -24,7 +24,7 @@ use crate::text::say_text;
 
 impl<'a> Statement<'a> {
     // Goes on behind a command.
-    fn go_on(&mut self, after: usize)
+    pub fn go_on(&mut self, after: usize)
         requires { ⌜ now self .ended ≡ false ⌝ }
         ensures { λ _. ⌜ state (now (self .exit)) ≡ goes (state (now (self .entry))) after (lines (now (self .entry) .book)) ⌝ }
     {

@@ -3,19 +3,22 @@ ghost use mathlib.Core.Bool.{false};
 ghost use mathlib.Core.Path.{_≡_};
 ghost use Prim.Native.Nat.{_≤_};
 ghost use lib.ListN.{length};
+ghost use Rattle.book.specs.Outcome.{Outcome};
 ghost use Rattle.sheet.specs.Commands.{longestSheet};
 ghost use Rattle.sheet.specs.Page.{Put};
 ghost use Rattle.sheet.specs.Reading.{number, carries};
-ghost use Rattle.sheet.specs.Statements.{shortestPage, clean-state, textLine, refusedLine, refusedNext};
-ghost use Rattle.sheet.specs.Stepping.{state, Stepped};
-use crate::LONGEST_COMMAND;
-use crate::SHORTEST_PAGE;
+ghost use Rattle.sheet.specs.Statements.{shortestPage, clean-state, refusedLine, refusedNext};
+ghost use Rattle.sheet.specs.Stepping.{state, checked, stepStopped, Stepped};
 use crate::command::Fault;
-use crate::obeying::obey;
+use crate::last::LastChain;
 use crate::reading::read;
 use crate::statement::Statement;
 use crate::text::say_sheet_refusal;
+use crate::LONGEST_COMMAND;
+use crate::SHORTEST_PAGE;
 use book::Book;
+use dividing::TABLE_ENTRIES;
+use dividing::TABLE_TONNES;
 
 impl<'a> Statement<'a> {
     // A statement of the sheet, before its first line.
@@ -27,26 +30,29 @@ impl<'a> Statement<'a> {
             place: 0,
             ended: false,
             book: Book::new(),
+            count: 0,
+            last: LastChain::new(),
         }
     }
 
     // Writes the next line of the statement at the start of the page, and answers its length; nothing after the end.
-    pub fn step(&mut self, page: &mut [u8]) -> Result<Option<usize>, Fault>
-        ensures { λ r. ⌜ Stepped (state (now (self .entry))) (now (page .entry)) r (state (now (self .exit))) (now (page .exit)) ⌝ }
+    // A step that prints a row or the count of a dividing first fills the tables as divide does.
+    pub fn step(&mut self, page: &mut [u8], rows: &mut [u16], tonnes: &mut [u32]) -> Result<Option<usize>, Fault>
+        ensures stop { λ r. ⌜ ((o : Outcome) → checked r o ≡ stepStopped (length (now (page .entry))) (length (now (rows .entry))) (length (now (tonnes .entry))) o) ⌝ }
+        ensures stepped { λ r. ⌜ Stepped (state (now (self .entry))) (now (page .entry)) (now (rows .entry)) (now (tonnes .entry)) r (state (now (self .exit))) (now (page .exit)) (now (rows .exit)) (now (tonnes .exit)) ⌝ }
     {
         if page.len() < SHORTEST_PAGE {
             return Err(Fault::TooShort);
+        }
+        if rows.len() < TABLE_ENTRIES || tonnes.len() < TABLE_TONNES {
+            return Err(Fault::TablesTooSmall);
         }
         if self.ended {
             return Ok(None);
         }
         match read(self.sheet, self.place) {
             Ok(None) => Ok(None),
-            Ok(Some(found)) => {
-                let length = obey(&mut self.book, found.command, self.place, page);
-                self.place = found.after;
-                Ok(Some(length))
-            }
+            Ok(Some(found)) => Ok(Some(self.obey(found.command, found.after, page, rows, tonnes))),
             Err(fault) => Ok(Some(self.refuse(&fault, page))),
         }
     }
@@ -59,6 +65,7 @@ impl<'a> Statement<'a> {
         ensures page { λ r. ⌜ Put (now (page .entry)) 0 (refusedLine (state (now (self .entry))) (number (now (fault .entry))) (carries (now (fault .entry)))) (now (page .exit)) r ⌝ }
         ensures next { λ _. ⌜ state (now (self .exit)) ≡ refusedNext (state (now (self .entry))) (number (now (fault .entry))) ⌝ }
     {
+        let place = self.place;
         match fault {
             Fault::OutOfRange => {
                 self.ended = true;
@@ -66,25 +73,26 @@ impl<'a> Statement<'a> {
             }
             Fault::UnknownCommand(_) => {
                 self.ended = true;
-                say_sheet_refusal(page, fault, self.place)
+                say_sheet_refusal(page, fault, place)
             }
             Fault::CutOff(_) => {
                 self.ended = true;
-                say_sheet_refusal(page, fault, self.place)
-            }
-            Fault::NoteByte(_) => {
-                let place = self.place;
-                self.place = place + LONGEST_COMMAND;
                 say_sheet_refusal(page, fault, place)
             }
             Fault::RuleByte(_) => {
-                let place = self.place;
-                self.place = place + 2;
+                self.go_on(place + 2);
                 say_sheet_refusal(page, fault, place)
             }
-            Fault::TooShort | Fault::TablesTooSmall => {
-                let place = self.place;
-                self.place = place + LONGEST_COMMAND;
+            Fault::NoteByte(_) => {
+                self.go_on(place + LONGEST_COMMAND);
+                say_sheet_refusal(page, fault, place)
+            }
+            Fault::TooShort => {
+                self.go_on(place + LONGEST_COMMAND);
+                say_sheet_refusal(page, fault, place)
+            }
+            Fault::TablesTooSmall => {
+                self.go_on(place + LONGEST_COMMAND);
                 say_sheet_refusal(page, fault, place)
             }
         }

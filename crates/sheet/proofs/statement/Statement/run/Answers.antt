@@ -13,7 +13,7 @@ pub returns-then-branch : need.returns-then-branch
 returns-then-branch c = ran-over _ _ _ _ _ _ _ (c .args .most) (c .loop .inv .1) (c .loop-test .taken) _ (c .if-branch .taken) (c .in-Continue-add-line .ensures tt)
 
 pub loop-again : need.loop-again
-loop-again c = (omega (arith, c .add-line .kept .page, c .loop .inv .0), running-on _ _ _ _ _ _ _ (c .args .most) (c .loop .inv .1) _ (c .if-branch .left) (c .in-Continue-add-line .ensures tt))
+loop-again c = (omega (arith, c .add-line .kept .page, c .loop .inv .0), running-on _ _ _ _ _ _ _ (c .args .most) (c .loop .inv .1) _ (c .if-branch .left) (c .in-Continue-add-line .ensures tt), omega (arith, c .add-line .kept .rows, c .loop .inv .2), omega (arith, c .add-line .kept .tonnes, c .loop .inv .3))
 
 pub returns : need.returns
 returns c = ran-all _ _ _ _ _ _ _ _ (c .loop .inv .1) refl refl (omega arith)
