@@ -1,7 +1,14 @@
 // Dividing a book under any lawful rule.
+mod lowest;
+mod open;
 mod rules;
+mod widest;
 
+pub use lowest::Lowest;
+pub use lowest::LowestRule;
 pub use rules::Rule;
+pub use widest::Widest;
+pub use widest::WidestRule;
 
 // row i stands at entry ROW_STRIDE × i
 pub const ROW_STRIDE: usize = 64;

@@ -1,0 +1,2 @@
+pub mod OpenLines
+pub mod Widening
