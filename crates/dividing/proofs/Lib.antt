@@ -1,2 +1,3 @@
 pub mod OpenLines
 pub mod Widening
+pub mod Amounts

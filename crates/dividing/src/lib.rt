@@ -1,7 +1,9 @@
 // Dividing a book under any lawful rule.
+mod left;
 mod lowest;
 mod open;
 mod rules;
+mod tables;
 mod widest;
 
 pub use lowest::Lowest;

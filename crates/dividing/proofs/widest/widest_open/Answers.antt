@@ -1,4 +1,5 @@
 use mathlib.Core.Bool.{true, false}
+use mathlib.Core.List.{[]}
 use mathlib.Core.Path.{_≡_, sym, subst, _∙_}
 use native.Mathlib.Omega.{arith}
 use lib.ListN.{length}
@@ -37,4 +38,4 @@ pub returns : need.returns
 returns c =
     let t = lines (c .args .book .now) in
     let ends : c .loop-n .n ≡ length t = omega arith in
-    best-all t (c .args .left .now) (c .args .account) (c .loop-n .best) (c .loop-n .most) (subst (λ i. Best t (c .args .left .now) (c .args .account) i (c .loop-n .best) (c .loop-n .most)) ends (c .loop-n .inv)) _
+    best-all t (c .args .left .now) (c .args .account) (c .loop-n .best) (c .loop-n .most) (subst (λ i. Best t (c .args .left .now) (c .args .account) i (c .loop-n .best) (c .loop-n .most)) ends (c .loop-n .inv)) []
