@@ -1,3 +1,5 @@
 pub mod OpenLines
 pub mod Widening
 pub mod Amounts
+pub mod Sourcing
+pub mod Walking

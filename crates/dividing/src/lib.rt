@@ -2,7 +2,9 @@
 mod left;
 mod lowest;
 mod open;
+mod rows;
 mod rules;
+mod sources;
 mod tables;
 mod widest;
 

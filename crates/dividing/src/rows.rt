@@ -1,0 +1,58 @@
+// One row: the walk from an account under a rule, and its tonnes.
+ghost use mathlib.Core.Path.{_≡_};
+ghost use Prim.Native.Nat.{ℕ, _<_, min};
+ghost use lib.ListN.{length, getD};
+ghost use Rattle.book.specs.Limits.{accounts};
+ghost use Rattle.book.specs.Lines.{lines};
+ghost use Rattle.book.specs.Tally.{WellFormed};
+ghost use Rattle.book.specs.Totals.{outTotal};
+ghost use Rattle.dividing.specs.Rows.{Followed, Walked, RowPut};
+ghost use Rattle.dividing.specs.Sources.{LowestSource};
+ghost use Rattle.dividing.specs.Tables.{rowStride};
+ghost use Rattle.flow.proofs.Walks.{Fair};
+ghost use Rattle.flow.specs.Rules.{Open};
+use crate::rules::Rule;
+use book::ACCOUNTS;
+use book::Book;
+use book::MOST_LINES;
+use chains::parts;
+
+fn lesser(a: u32, b: u32) -> u32
+    ensures { λ r. ⌜ r ≡ min a b ⌝ }
+{
+    if a < b { a } else { b }
+}
+
+// Asks the rule at an account that has an open line: the line that it names, the account that this line enters and its tonnes left.
+fn follow<R: Rule>(book: &Book, rule: &R, left: &[u32; MOST_LINES], account: u8, walked: &[u16]) -> (u16, u8, u32)
+    requires sound { ⌜ WellFormed (lines (now book)) ⌝ }
+    requires opened { ⌜ ((n : ℕ) × Open (lines (now book)) (now left) account n) ⌝ }
+    ensures { λ r. ⌜ Followed (choice (now (rule .entry))) (lines (now (book .entry))) (now (left .entry)) account (now (walked .entry)) (r .0) (r .1) (r .2) ⌝ }
+{
+    let line = rule.name(book, left, account, walked);
+    let (_, to, _) = parts(book, line);
+    (line, to, left[line as usize])
+}
+
+// Walks from an account to an end account, and writes each line behind the row's first entry. Answers how many lines the walk
+// has and the least tonnes left along it.
+fn walk<R: Rule>(book: &Book, rule: &R, outs: &[u32; ACCOUNTS], left: &[u32; MOST_LINES], start: u8, row: &mut [u16]) -> (usize, u32)
+    requires sound { ⌜ WellFormed (lines (now book)) ⌝ }
+    requires fair { ⌜ Fair (lines (now book)) (now left) ⌝ }
+    requires totals { ⌜ ((a : ℕ) → a < accounts → getD (now outs) a 0 ≡ outTotal (lines (now book)) a) ⌝ }
+    requires source { ⌜ LowestSource (lines (now book)) (now left) start ⌝ }
+    requires room { ⌜ length (now row) ≡ rowStride ⌝ }
+    ensures { λ r. ⌜ Walked (choice (now (rule .entry))) (lines (now (book .entry))) (now (left .entry)) start (now (row .entry)) (r .0) (r .1) (now (row .exit)) ⌝ }
+{
+    let mut account = start;
+    let mut length = 0;
+    let mut least = u32::MAX;
+    while outs[account as usize] > 0 {
+        let (line, to, tonnes) = follow(book, rule, left, account, &row[1..length + 1]);
+        length += 1;
+        row[length] = line;
+        least = lesser(least, tonnes);
+        account = to;
+    }
+    (length, least)
+}
