@@ -3,3 +3,5 @@ pub mod Widening
 pub mod Amounts
 pub mod Sourcing
 pub mod Walking
+pub mod Rowing
+pub mod Tabled

@@ -119,6 +119,7 @@ module _ (choice : Choice) (t : Tally) (left : List ℕ) (start : ℕ) (before :
         lines = so .lines;
         walk = walk;
         counted = so .counted;
+        short = omega (arith, so .counted, so .risen, so .placed);
         least-left = ⊎-elim (λ empty. absurd (both-ways (any (leaves start) t) (subst (Walk choice t left start []) (empty .0) walk) (source .origin .left))) (λ some. some .1) (so .least-so);
         table = so .table;
       }

@@ -4,12 +4,12 @@
 --   RowPut     the next row stands in its entries, its length first, and is taken off the tonnes left
 use mathlib.Core.List.{List, [], _∷_}
 use mathlib.Core.Path.{_≡_}
-use Prim.Native.Nat.{ℕ, _<_}
+use Prim.Native.Nat.{ℕ, _<_, _≤_}
 use lib.ListN.{length, getD}
 use Rattle.book.specs.Overlay.{laid, over}
 use Rattle.book.specs.Limits.{accounts}
 use Rattle.book.specs.Tally.{Tally, at}
-use Rattle.flow.specs.Chains.{toOf}
+use Rattle.flow.specs.Chains.{longestChain, toOf}
 use Rattle.flow.specs.Dividing.{Walk, leastLeft, IsRow, off}
 use Rattle.flow.specs.Rules.{Choice, Open}
 use Rattle.flow.specs.Splits.{Row}
@@ -26,6 +26,7 @@ pub record Walked (choice : Choice) (t : Tally) (left : List ℕ) (start : ℕ) 
   pub lines : List ℕ
   pub walk : Walk choice t left start [] lines
   pub counted : count ≡ length lines
+  pub short : count ≤ longestChain
   pub least-left : least ≡ leastLeft left lines
   pub table : after ≡ laid before 1 lines
 

@@ -1,8 +1,8 @@
 // The tonnes left on each line: at first the amounts, and what remains after a row.
 ghost use mathlib.Core.Path.{_≡_};
-ghost use lib.ListN.{length};
 ghost use Rattle.std.specs.shelf.Lists.{All};
 ghost use Rattle.book.specs.Lines.{lines};
+ghost use Rattle.book.specs.Tally.{WellFormed};
 ghost use Rattle.flow.proofs.Infix.{Apart};
 ghost use Rattle.flow.proofs.TonnesLeft.{Bears};
 ghost use Rattle.flow.specs.Dividing.{amounts, off};
@@ -12,7 +12,8 @@ use chains::parts;
 
 // The amount of each line; 0 where the line is not live.
 pub fn all_amounts(book: &Book) -> [u32; MOST_LINES]
-    ensures { λ r. ⌜ r ≡ amounts (lines (now (book .entry))) ⌝ }
+    ensures amounts { λ r. ⌜ r ≡ amounts (lines (now (book .entry))) ⌝ }
+    ensures sound { λ _. ⌜ WellFormed (lines (now (book .entry))) ⌝ }
 {
     let mut left = [0u32; MOST_LINES];
     for n in 0..book.len() {

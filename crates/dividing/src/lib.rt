@@ -1,4 +1,5 @@
 // Dividing a book under any lawful rule.
+mod divide;
 mod left;
 mod lowest;
 mod open;

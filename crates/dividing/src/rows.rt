@@ -11,6 +11,7 @@ ghost use Rattle.dividing.specs.Sources.{LowestSource};
 ghost use Rattle.dividing.specs.Tables.{rowStride};
 ghost use Rattle.flow.proofs.Walks.{Fair};
 ghost use Rattle.flow.specs.Rules.{Open};
+use crate::left::take_off;
 use crate::rules::Rule;
 use book::ACCOUNTS;
 use book::Book;
@@ -55,4 +56,19 @@ fn walk<R: Rule>(book: &Book, rule: &R, outs: &[u32; ACCOUNTS], left: &[u32; MOS
         account = to;
     }
     (length, least)
+}
+
+// Writes the next row, which begins at the account, and takes its tonnes off its lines. Answers the tonnes.
+pub fn put_row<R: Rule>(book: &Book, rule: &R, outs: &[u32; ACCOUNTS], start: u8, left: &mut [u32; MOST_LINES], row: &mut [u16]) -> u32
+    requires sound { ⌜ WellFormed (lines (now book)) ⌝ }
+    requires fair { ⌜ Fair (lines (now book)) (now left) ⌝ }
+    requires totals { ⌜ ((a : ℕ) → a < accounts → getD (now outs) a 0 ≡ outTotal (lines (now book)) a) ⌝ }
+    requires source { ⌜ LowestSource (lines (now book)) (now left) start ⌝ }
+    requires room { ⌜ length (now row) ≡ rowStride ⌝ }
+    ensures { λ r. ⌜ RowPut (choice (now (rule .entry))) (lines (now (book .entry))) (now (left .entry)) (now (row .entry)) r (now (left .exit)) (now (row .exit)) ⌝ }
+{
+    let (length, least) = walk(book, rule, outs, left, start, row);
+    row[0] = length as u16;
+    take_off(left, least, &row[1..length + 1]);
+    least
 }

@@ -16,4 +16,7 @@ pub returns : need.returns
 returns c =
     let t = lines (c .args .book .now) in
     let ends : c .loop-n .n ≡ length t = omega arith in
-    amounts-all t (c .loop-n .left) (omega arith) (subst (λ i. AmountsTo t i (c .loop-n .left)) ends (c .loop-n .inv))
+    record {
+      amounts = amounts-all t (c .loop-n .left) (omega arith) (subst (λ i. AmountsTo t i (c .loop-n .left)) ends (c .loop-n .inv));
+      sound = c .len-n-end .ensures .sound;
+    }
