@@ -55,11 +55,15 @@ module _ (choice : Choice) (t : Tally) (left : List ℕ) (start : ℕ) (before :
         ap (λ l. take (count + 1 - 1) (drop 1 l)) row-table
         ∙ take-at (walked .lines) (drop (length (length (walked .lines) ∷ walked .lines)) before) (count + 1 - 1) (omega (arith, walked .counted))
 
-    pub row-put : (left-after : List ℕ) → left-after ≡ off left least (take (count + 1 - 1) (drop 1 (set after 0 count))) → RowPut choice t left before least left-after (set after 0 count)
-    row-put left-after taken = record {
+    pub row-put : (left-after : List ℕ) → left-after ≡ off left least (take (count + 1 - 1) (drop 1 (set after 0 count))) → RowPut choice t left 0 before least left-after (set after 0 count)
+    row-put left-after taken =
+        let new = length (walked .lines) ∷ walked .lines in
+        let none : length new ≡ 0 + length new = omega arith in
+        record {
       row = row;
       is-row = is-row;
       tonnes-so = refl;
       taken-off = taken ∙ ap (off left least) lines-part;
-      table = row-table;
+      short = omega (arith, walked .counted, walked .short);
+      table = row-table ∙ ap (λ k. new ++ drop k before) none;
     }

@@ -1,5 +1,5 @@
 // Dividing a book under any lawful rule.
-mod divide;
+mod division;
 mod left;
 mod lowest;
 mod open;
@@ -9,6 +9,7 @@ mod sources;
 mod tables;
 mod widest;
 
+pub use division::divide;
 pub use lowest::Lowest;
 pub use lowest::LowestRule;
 pub use rules::Rule;
