@@ -1,2 +1,4 @@
 pub mod Tables
 pub mod Filling
+pub mod Sources
+pub mod Rows

@@ -1,7 +1,20 @@
 // Dividing a book under any lawful rule.
+mod division;
+mod left;
+mod lowest;
+mod open;
+mod rows;
 mod rules;
+mod sources;
+mod tables;
+mod widest;
 
+pub use division::divide;
+pub use lowest::Lowest;
+pub use lowest::LowestRule;
 pub use rules::Rule;
+pub use widest::Widest;
+pub use widest::WidestRule;
 
 // row i stands at entry ROW_STRIDE × i
 pub const ROW_STRIDE: usize = 64;

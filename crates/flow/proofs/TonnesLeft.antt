@@ -62,7 +62,7 @@ weigh-map p (l ∷ t) ws = ap (λ s. cond (p l) (amountOf l) 0 + s) (weigh-map p
 pub weigh-amounts : (p : Line → Bool) (t : Tally) → weigh p t (amounts t) ≡ total (λ l. cond (p l) (amountOf l) 0) t
 weigh-amounts p t = weigh-map p t (replicate (mostLines - length t) 0)
 
-getD-zeros : (m n : ℕ) → getD (replicate m 0) n 0 ≡ zero
+pub getD-zeros : (m n : ℕ) → getD (replicate m 0) n 0 ≡ zero
 getD-zeros zero n = refl
 getD-zeros (suc m) zero = refl
 getD-zeros (suc m) (suc n) = getD-zeros m n
