@@ -17,6 +17,11 @@ ghost use Rattle.std.specs.shelf.Lists.{All};
 use crate::text::say_chain;
 use book::Book;
 use chains::Fault as ChainFault;
+use dividing::divide;
+use dividing::Lowest;
+use dividing::LowestRule;
+use dividing::Widest;
+use dividing::WidestRule;
 use dividing::ROW_STRIDE;
 
 // Divides under rule 0 or rule 1.
@@ -24,7 +29,11 @@ pub fn divide_by(book: &Book, rule: u8, rows: &mut [u16], tonnes: &mut [u32]) ->
     ensures stop { λ r. ⌜ ((o : Outcome) → checked r o ≡ divideStopped (lines (now (book .entry))) (length (now (rows .entry))) (length (now (tonnes .entry))) o) ⌝ }
     ensures filled { λ r. ⌜ Answered (ruleOf rule) (lines (now (book .entry))) (now (rows .entry)) (now (tonnes .entry)) r (now (rows .exit)) (now (tonnes .exit)) ⌝ }
 {
-    Ok(0)
+    if rule == 0 {
+        divide(book, &Lowest, rows, tonnes)
+    } else {
+        divide(book, &Widest, rows, tonnes)
+    }
 }
 
 // Prints a row of the tables.
