@@ -35,12 +35,16 @@ Reached t w c (Some r) = Comes t w c r
 abbrev pub reach : ℕ → ℕ → Reach
 reach account tonnes = record { account = account; tonnes = tonnes }
 
--- from no line, a line of the floor or more; else a live line that leaves the account and keeps the excess at the floor or more
+-- a live line that leaves the account and keeps the excess at the floor or more
+abbrev pub accepts : Tally → ℕ → Reach → ℕ → Bool
+accepts t w r n =
+    eqb (r .account) (fromOf (at t n)) && (ltb 0 (amountOf (at t n)) && leb (inTotal t (fromOf (at t n)) + w) (r .tonnes + amountOf (at t n)))
+
+-- from no line, a line of the floor or more; else a line accepted
 abbrev pub grown : Tally → ℕ → Option Reach → ℕ → Option Reach
 grown t w None n = cond (leb w (amountOf (at t n))) (Some (reach (toOf (at t n)) (amountOf (at t n)))) None
 grown t w (Some r) n =
-    cond
-    (eqb (r .account) (fromOf (at t n)) && (ltb 0 (amountOf (at t n)) && leb (inTotal t (fromOf (at t n)) + w) (r .tonnes + amountOf (at t n))))
+    cond (accepts t w r n)
     (Some (reach (toOf (at t n)) ((r .tonnes + amountOf (at t n)) - inTotal t (fromOf (at t n)))))
     None
 
