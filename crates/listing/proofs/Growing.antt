@@ -27,7 +27,6 @@ use Rattle.flow.proofs.Infix.{holds-start}
 use Rattle.flow.proofs.Parts.{part-certain}
 use Rattle.flow.specs.Chains.{Chain, finish, fromOf, longestChain, runs, runTo, toOf}
 use Rattle.flow.specs.Excess.{excess, excessOn, joined}
-use Rattle.flow.specs.Splits.{holds}
 use Rattle.listing.specs.Growth.{accepts, CertainChain, Comes, Front, grown, held, reach, Reached}
 use Rattle.listing.specs.declared.reach.Reach.{Reach}
 
@@ -170,8 +169,19 @@ module _ (t : Tally) (w : ℕ) (well : WellFormed t) (balanced : Balanced t) (so
   grown-none (m ∷ c) (Some b) n comes is certain = both-ways (accepts t w b n) (none-cond (accepts t w b n) _ is) (grown-accepted m c b n comes certain)
 
   -- a beginning of a certain chain
-  pub front-certain : (p : List ℕ) (j : ℕ) (y : List ℕ) → CertainChain t w (p ++ j ∷ y) → CertainChain t w (p ++ j ∷ [])
-  front-certain p j y (chain, certain) =
-      let held : holds (p ++ j ∷ []) (p ++ j ∷ y) ≡ true = subst (λ d. holds (p ++ j ∷ []) d ≡ true) (append-assoc p (j ∷ []) y) (holds-start (p ++ j ∷ []) y) in
-      let front : Chain t (p ++ j ∷ []) = chain-part t (p ++ j ∷ []) (p ++ j ∷ y) (omega (arith, length-push p j)) chain held in
-      (front, part-certain t w (p ++ j ∷ []) (p ++ j ∷ y) front certain held)
+  pub beginning-certain : (p y : List ℕ) → 0 < length p → CertainChain t w (p ++ y) → CertainChain t w p
+  beginning-certain p y long (chain, certain) =
+      let front : Chain t p = chain-part t p (p ++ y) long chain (holds-start p y) in
+      (front, part-certain t w p (p ++ y) front certain (holds-start p y))
+
+  -- the numbers of a list taken one after the other
+  pub front-more : (given : List ℕ) (i : ℕ) (before : Option Reach) (r : Reach) → i < length given → Reached t w (take i given) before → Some r ≡ grown t w before (getD given i 0) → Comes t w (take (i + 1) given) r
+  front-more given i before r within reached is =
+      subst (λ z. Comes t w z r) (sym (take-more given i 0 within)) (grown-some (take i given) before (getD given i 0) r reached is)
+
+  pub front-stops : (given : List ℕ) (i : ℕ) (before : Option Reach) → i < length given → Reached t w (take i given) before → None ≡ grown t w before (getD given i 0) → Front t w given i before
+  front-stops given i before within reached is = record {
+    within = omega arith;
+    reached = reached;
+    longest = λ _ certain. grown-none (take i given) before (getD given i 0) reached is (subst (CertainChain t w) (take-more given i 0 within) certain);
+  }

@@ -1,2 +1,3 @@
 pub mod Nexts
 pub mod Growth
+pub mod After
