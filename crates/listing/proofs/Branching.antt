@@ -12,11 +12,13 @@ use Rattle.std.specs.declared.option.Option.{Option}
 use Rattle.std.specs.declared.option.Option.the-variants.{Some, None}
 use Rattle.book.specs.Tally.{Tally, WellFormed}
 use Rattle.book.specs.Totals.{Balanced}
-use Rattle.flow.proofs.Order.{before-irreflexive}
+use Rattle.flow.proofs.ChainFacts.{chain-short}
+use Rattle.flow.specs.Chains.{longestChain}
 use Rattle.flow.specs.Listing.{Before}
 use Rattle.listing.proofs.Growing.{beginning-certain, grown-none, grown-some}
 use Rattle.listing.specs.After.{Barren, FirstCertain, lowestAfter, NoCertain, Open}
 use Rattle.listing.specs.Growth.{CertainChain, Comes, FirstGrown, Front, Reached}
+use Rattle.listing.specs.Walks.{Found}
 use Rattle.listing.specs.declared.reach.Reach.{Reach}
 
 -- lists with the same beginning
@@ -156,3 +158,31 @@ module _ (t : Tally) (w : ℕ) (well : WellFormed t) (balanced : Balanced t) (so
       absurd (f .longest (omega arith) (subst (CertainChain t w) (sym cut) (shorter-certain k (i + 1) opened (omega arith) (omega arith)))))
       (λ all. subst (λ z. Reached t w z r) (take-all i (take k given) (omega arith)) (f .reached))
       (cases-lt i k)
+
+  -- what the search by lines at an open beginning finds
+  module _ (k low : ℕ) (before : Option Reach) (opened : Open t w given k) (reached : Reached t w (take k given) before) (from : low ≡ lowestAfter given k) where
+    pub growth-none : FirstGrown t w before low None → Barren t w given k
+    growth-none none = branch-none k opened (λ j above. grown-none t w well balanced some (take k given) before j reached (sym (none j (omega arith))))
+
+    pub growth-comes : (m : ℕ) (r : Reach) → FirstGrown t w before low (Some (m, r)) → Comes t w (take k given ++ m ∷ []) r
+    growth-comes m r found = grown-some t w well balanced some (take k given) before m r reached (sym (found .1))
+
+    pub growth-found : (m : ℕ) (r : Reach) → FirstGrown t w before low (Some (m, r)) → Found t w given (take k given ++ m ∷ []) r
+    growth-found m r found =
+        let comes = growth-comes m r found in
+        record {
+          first =
+              branch-found k m opened (omega (arith, found .0)) (comes .certain)
+              (λ j above below. grown-none t w well balanced some (take k given) before j reached (sym (found .2 j (omega arith) below)));
+          comes = comes;
+        }
+
+    pub growth-short : (m : ℕ) (r : Reach) → FirstGrown t w before low (Some (m, r)) → k < longestChain
+    growth-short m r found =
+        omega (arith, chain-short t (take k given ++ m ∷ []) (growth-comes m r found .certain .0), length-push (take k given) m, length-take-le k given (opened .within))
+
+-- the same for a list that is the first numbers of a longer one
+pub front-held : (t : Tally) (w : ℕ) → WellFormed t → Balanced t → 0 < w → (ns : List ℕ) (count k i : ℕ) (r : Option Reach) → count ≤ length ns → Open t w (take count ns) k → Front t w (take k ns) i r → Reached t w (take k (take count ns)) r
+front-held t w well balanced some ns count k i r within opened f =
+    let same : take k (take count ns) ≡ take k ns = take-take k count ns (omega (arith, opened .within, length-take-le count ns within)) in
+    front-whole t w well balanced some (take count ns) k i r opened (subst (λ z. Front t w z i r) (sym same) f)

@@ -1,3 +1,4 @@
 pub mod Nexts
 pub mod Growth
 pub mod After
+pub mod Walks

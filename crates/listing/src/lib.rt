@@ -1,5 +1,7 @@
 // The list of a book's greatest certain chains.
 mod nexts;
 mod reach;
+mod steps;
+mod walk;
 
 pub use nexts::Next;
