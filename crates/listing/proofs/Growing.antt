@@ -35,7 +35,7 @@ pub live-from-amount : (l : Line) → 0 < amountOf l → isLive l ≡ true
 live-from-amount (Live from to amount) h = refl
 live-from-amount Struck h = absurd (omega arith)
 
-amount-from-live : (l : Line) → Sound l → isLive l ≡ true → 0 < amountOf l
+pub amount-from-live : (l : Line) → Sound l → isLive l ≡ true → 0 < amountOf l
 amount-from-live (Live from to amount) sound h = sound .2
 amount-from-live Struck sound h = absurd (both-ways false refl h)
 

@@ -1,2 +1,4 @@
 pub mod Growing
 pub mod Branching
+pub mod Leftward
+pub mod Remaining

@@ -3,8 +3,9 @@
 --   Reached        what a chain, or no line, has come to: the account that it enters at last and its excess
 --   grown          what it comes to with one line more, where that is certain
 --   FirstGrown     the lowest line from a number on by which it grows
+--   precedes       whether a line before a chain makes a longer certain one
 --   Front          the longest beginning of a list that is a certain chain, and what it has come to
-use mathlib.Core.Bool.{Bool, cond, _&&_}
+use mathlib.Core.Bool.{Bool, true, false, cond, _&&_}
 use mathlib.Core.List.{List, [], _∷_}
 use mathlib.Core.Path.{_≡_}
 use Prim.Native.Nat.{ℕ, _+_, _-_, _<_, _≤_}
@@ -17,7 +18,7 @@ use Rattle.book.specs.Tally.{Tally, at}
 use Rattle.book.specs.Totals.{amountOf, inTotal}
 use Rattle.flow.specs.Chains.{Chain, finish, fromOf, toOf}
 use Rattle.flow.specs.Excess.{excess}
-use Rattle.flow.specs.Splits.{Certain}
+use Rattle.flow.specs.Splits.{Certain, Greatest}
 use Rattle.listing.specs.declared.reach.Reach.{Reach}
 
 abbrev pub CertainChain : Tally → ℕ → List ℕ → Type 0
@@ -61,3 +62,17 @@ pub record Front (t : Tally) (w : ℕ) (given : List ℕ) (k : ℕ) (r : Option 
   pub within : k ≤ length given
   pub reached : Reached t w (take k given) r
   pub longest : k < length given → CertainChain t w (take (k + 1) given) → ⊥
+
+-- a live line that enters the account a chain leaves, and keeps the excess of the longer chain at the floor or more
+abbrev pub precedes : Tally → ℕ → ℕ → ℕ → ℕ → Bool
+precedes t w account tonnes n =
+    eqb (toOf (at t n)) account && (ltb 0 (amountOf (at t n)) && leb (inTotal t account + w) (tonnes + amountOf (at t n)))
+
+abbrev pub Preceded : Tally → ℕ → ℕ → ℕ → Bool → Type 0
+Preceded t w account tonnes true = (n : ℕ) × (precedes t w account tonnes n ≡ true)
+Preceded t w account tonnes false = (n : ℕ) → precedes t w account tonnes n ≡ false
+
+-- whether a chain is greatest
+abbrev pub Judged : Tally → ℕ → List ℕ → Bool → Type 0
+Judged t w c true = Greatest t w c
+Judged t w c false = Greatest t w c → ⊥

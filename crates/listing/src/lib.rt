@@ -1,4 +1,5 @@
 // The list of a book's greatest certain chains.
+mod greatest;
 mod nexts;
 mod reach;
 mod steps;

@@ -30,3 +30,23 @@ fn branch(book: &Book, totals: &[u32; ACCOUNTS], floor: u32, walk: &Walk, kept: 
         None => None,
     }
 }
+
+// The first certain chain after the walk: branched off from as many of its lines as can be kept.
+pub fn step(book: &Book, totals: &[u32; ACCOUNTS], floor: u32, walk: &Walk) -> Option<(Walk, Reach)>
+    requires totals { ⌜ length (now totals) ≡ accounts ⌝ ∗ ⌜ ((a : ℕ) → a < accounts → getD (now totals) a 0 ≡ inTotal (lines (now book)) a) ⌝ }
+    requires some { ⌜ 0 < floor ⌝ }
+    requires balanced { ⌜ Balanced (lines (now book)) ⌝ ∗ ⌜ WellFormed (lines (now book)) ⌝ }
+    ensures { λ r. ⌜ Stepped (lines (now (book .entry))) floor (path (now (walk .entry))) r ⌝ }
+{
+    let (longest, _) = front(book, totals, floor, &walk.lines[..walk.count]);
+    let mut stem = longest;
+    loop {
+        if let Some(found) = branch(book, totals, floor, walk, stem) {
+            return Some(found);
+        }
+        if stem == 0 {
+            return None;
+        }
+        stem -= 1;
+    }
+}
