@@ -73,3 +73,12 @@ module _ (t : Tally) (w : ℕ) (well : WellFormed t) (balanced : Balanced t) (so
           left = λ n chain certain. both-ways (precedes t w (start t c) (r .tonnes) n) (none n) (left-precedes c (r .tonnes) n (comes .certain) (comes .tonnes) (chain, certain));
           right = λ n chain certain. grown-none t w well balanced some c (Some r) n comes (sym (right n (omega arith))) (chain, certain);
         })
+
+-- where a chain starts, by its first line
+pub start-first : (t : Tally) (c : List ℕ) → Chain t c → start t c ≡ fromOf (at t (getD c 0 0))
+start-first t [] chain = absurd (both-ways false refl chain)
+start-first t (n ∷ c) chain = refl
+
+pub chain-some : (t : Tally) (c : List ℕ) → Chain t c → 0 < length c
+chain-some t [] chain = absurd (both-ways false refl chain)
+chain-some t (n ∷ c) chain = omega arith

@@ -2,3 +2,4 @@ pub mod Growing
 pub mod Branching
 pub mod Leftward
 pub mod Remaining
+pub mod Picking

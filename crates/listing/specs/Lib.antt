@@ -2,3 +2,4 @@ pub mod Nexts
 pub mod Growth
 pub mod After
 pub mod Walks
+pub mod Picks
