@@ -2,7 +2,7 @@ use Rattle.book.specs.Lines.{lines}
 use Rattle.listing.proofs.Picking.{Upto}
 use Rattle.listing.proofs.Remaining.{remaining}
 use Rattle.listing.specs.Walks.{path}
-use Rattle.listing.proofs.nexts.first_greatest.Given as given
+use Rattle.listing.proofs.finding.first_greatest.Given as given
 
 abbrev pub Inv-loop-certain : given.InvT-loop-certain
 Inv-loop-certain l = Upto (lines (l .book)) (l .floor) (path (l .entry .passed)) (path (l .passed))
