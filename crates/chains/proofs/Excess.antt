@@ -14,7 +14,7 @@ excessOn-last : (t : Tally) (e : ℤ) (c : List ℕ) (n : ℕ) → excessOn t e 
 excessOn-last t e [] n = refl
 excessOn-last t e (m ∷ c) n = excessOn-last t (joined t e m) c n
 
-excess-last : (t : Tally) (c : List ℕ) (n : ℕ) → 0 < length c → excess t (c ++ n ∷ []) ≡ joined t (excess t c) n
+pub excess-last : (t : Tally) (c : List ℕ) (n : ℕ) → 0 < length c → excess t (c ++ n ∷ []) ≡ joined t (excess t c) n
 excess-last t [] n some = absurd (omega arith)
 excess-last t (m ∷ c) n some = excessOn-last t (pos (amountOf (at t m))) c n
 

@@ -45,11 +45,11 @@ pub enters-to : (a : ℕ) (l : Line) → enters a l ≡ true → toOf l ≡ a
 enters-to a (Live from to amount) h = eqb-true to a h
 enters-to a Struck h = absurd (both-ways false refl h)
 
-leaves-is : (a : ℕ) (l : Line) → isLive l ≡ true → leaves a l ≡ eqb (fromOf l) a
+pub leaves-is : (a : ℕ) (l : Line) → isLive l ≡ true → leaves a l ≡ eqb (fromOf l) a
 leaves-is a (Live from to amount) h = refl
 leaves-is a Struck h = absurd (both-ways false refl h)
 
-enters-is : (a : ℕ) (l : Line) → isLive l ≡ true → enters a l ≡ eqb (toOf l) a
+pub enters-is : (a : ℕ) (l : Line) → isLive l ≡ true → enters a l ≡ eqb (toOf l) a
 enters-is a (Live from to amount) h = refl
 enters-is a Struck h = absurd (both-ways false refl h)
 
@@ -129,7 +129,7 @@ runs-entered t b (n ∷ ns) entered h =
     let p = runs-step t b n ns h in
     runs-entered t (toOf (at t n)) ns (live-entered t n (leaves-live b (at t n) (p .0))) (p .1)
 
-runs-linked : (t : Tally) (a n : ℕ) (ns : List ℕ) → runs t a (n ∷ ns) ≡ true → linked t (n ∷ ns) ≡ true
+pub runs-linked : (t : Tally) (a n : ℕ) (ns : List ℕ) → runs t a (n ∷ ns) ≡ true → linked t (n ∷ ns) ≡ true
 runs-linked t a n ns h =
     let p = runs-step t a n ns h in
     and-from (isLive (at t n)) (runs t (toOf (at t n)) ns) (leaves-live a (at t n) (p .0)) (p .1)
@@ -138,7 +138,7 @@ runs-linked t a n ns h =
 pub chain-short : (t : Tally) (c : List ℕ) → Chain t c → length c ≤ longestChain
 chain-short t c h = leb-true (length c) longestChain (and-parts (leb (length c) longestChain) (linked t c) h .0)
 
-chain-from : (t : Tally) (c : List ℕ) → length c ≤ longestChain → linked t c ≡ true → Chain t c
+pub chain-from : (t : Tally) (c : List ℕ) → length c ≤ longestChain → linked t c ≡ true → Chain t c
 chain-from t c short link = and-from (leb (length c) longestChain) (linked t c) (le-leb (length c) longestChain short) link
 
 pub chain-step : (t : Tally) (n : ℕ) (ns : List ℕ) → Chain t (n ∷ ns) → (isLive (at t n) ≡ true) × (runs t (toOf (at t n)) ns ≡ true)
@@ -261,7 +261,7 @@ module _ (t : Tally) (sound : All Sound t) where
       let p = runs-step t a n d run in
       omega (arith, rises a n (p .0), run-length (toOf (at t n)) d (p .1))
 
-  run-within : (a : ℕ) (d : List ℕ) → a ≤ highestAccount → runTo t a d ≤ highestAccount
+  pub run-within : (a : ℕ) (d : List ℕ) → a ≤ highestAccount → runTo t a d ≤ highestAccount
   run-within a [] low = low
   run-within a (n ∷ d) low = run-within (toOf (at t n)) d (entered-within n)
 

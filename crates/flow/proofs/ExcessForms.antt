@@ -52,7 +52,7 @@ excessOn-add t e k (n ∷ ns) =
     let moved : joined t (e +ℤ k) n ≡ joined t e n +ℤ k = omega (arith, ints) in
     ap (λ z. excessOn t z ns) moved ∙ excessOn-add t (joined t e n) k ns
 
-excess-first : (t : Tally) (n m : ℕ) (ns : List ℕ) → excess t (n ∷ m ∷ ns) ≡ excess t (m ∷ ns) +ℤ (pos (amountOf (at t n)) -ℤ pos (inTotal t (fromOf (at t m))))
+pub excess-first : (t : Tally) (n m : ℕ) (ns : List ℕ) → excess t (n ∷ m ∷ ns) ≡ excess t (m ∷ ns) +ℤ (pos (amountOf (at t n)) -ℤ pos (inTotal t (fromOf (at t m))))
 excess-first t n m ns =
     let e = pos (amountOf (at t m)) in
     let k = pos (amountOf (at t n)) -ℤ pos (inTotal t (fromOf (at t m))) in

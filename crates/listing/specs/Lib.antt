@@ -1,1 +1,5 @@
 pub mod Nexts
+pub mod Growth
+pub mod After
+pub mod Walks
+pub mod Picks

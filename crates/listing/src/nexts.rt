@@ -1,4 +1,4 @@
-// The next greatest certain chain.
+// What next answers.
 
 // The chain found, by its length and its certain figure; or there is none.
 #[derive(Clone, Copy)]

@@ -1,0 +1,5 @@
+pub mod Growing
+pub mod Branching
+pub mod Leftward
+pub mod Remaining
+pub mod Picking

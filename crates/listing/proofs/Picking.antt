@@ -1,0 +1,53 @@
+-- Going through the certain chains in order up to the first greatest one. Assumes nothing.
+use mathlib.Core.List.{List}
+use mathlib.Core.Path.{_≡_, sym, ap, subst}
+use Prim.Native.Nat.{ℕ}
+use Rattle.book.specs.Tally.{Tally, WellFormed}
+use Rattle.book.specs.Totals.{Balanced}
+use Rattle.chains.specs.Certainty.{Agreed}
+use Rattle.flow.proofs.Certainty.{figure-is-least}
+use Rattle.flow.proofs.Order.{before-transitive, compare-before}
+use Rattle.flow.specs.Excess.{positive}
+use Rattle.flow.specs.Listing.{Before, NoneAfter}
+use Rattle.flow.specs.Splits.{Greatest}
+use Rattle.listing.specs.After.{FirstCertain, NoCertain}
+use Rattle.listing.specs.Picks.{Chosen}
+use Rattle.listing.specs.Walks.{Found}
+use Rattle.listing.specs.declared.reach.Reach.{Reach}
+use mathlib.Core.Logic.{inl, inr}
+
+-- no greatest certain chain after the given list has been passed over up to the last
+pub record Upto (t : Tally) (w : ℕ) (given last : List ℕ) : Type 0 where
+  pub beyond : (d : List ℕ) → Before last d → Before given d
+  pub passed : (d : List ℕ) → Greatest t w d → Before given d → Before last d
+
+pub upto-none : (t : Tally) (w : ℕ) (given : List ℕ) → Upto t w given given
+upto-none t w given = record { beyond = λ _ h. h; passed = λ _ _ h. h }
+
+module _ (t : Tally) (w : ℕ) (given last : List ℕ) (upto : Upto t w given last) where
+  pub upto-more : (c : List ℕ) → FirstCertain t w last c → (Greatest t w c → ⊥) → Upto t w given c
+  upto-more c first other = record {
+    beyond = λ d after. upto .beyond d (before-transitive last c d (first .after) after);
+    passed = λ d greatest after.
+        elim (compare-before d c) [
+          | inl before ↦ absurd (first .first d (greatest .chain, greatest .certain) (upto .passed d greatest after) before)
+          | inr (inl same) ↦ absurd (other (subst (Greatest t w) same greatest))
+          | inr (inr later) ↦ later
+        ];
+  }
+
+  pub upto-done : NoCertain t w last → NoneAfter t w given
+  upto-done none d greatest after = none d (greatest .chain, greatest .certain) (upto .passed d greatest after)
+
+  pub upto-found : WellFormed t → Balanced t → (c : List ℕ) (r : Reach) → Found t w last c r → Greatest t w c → Chosen t w given c (r .tonnes)
+  upto-found well balanced c r found greatest =
+      let least = figure-is-least t c well balanced (greatest .chain) in
+      record {
+        first = record {
+          greatest = greatest;
+          after = upto .beyond c (found .first .after);
+          first = λ d greatest-d after before. found .first .first d (greatest-d .chain, greatest-d .certain) (upto .passed d greatest-d after) before;
+        };
+        amount = ap positive (found .comes .tonnes);
+        agreed = record { every = least .0; some = least .1 };
+      }
