@@ -13,6 +13,8 @@ use crate::last::LastChain;
 use book::Book;
 use chains::Fault as ChainFault;
 use chains::LONGEST_CHAIN;
+use listing::next;
+use listing::Next;
 
 impl LastChain {
     pub fn new() -> LastChain
@@ -36,7 +38,14 @@ impl LastChain {
         ensures stop { λ r. ⌜ ((o : Outcome) → checked r o ≡ listStopped (lines (now (book .entry))) floor o) ⌝ }
         ensures moved { λ r. ⌜ Moved (lines (now (book .entry))) floor (chainOf (now (self .entry))) r (chainOf (now (self .exit))) ⌝ }
     {
-        Ok(None)
+        match next(book, floor, self.lines, &mut self.row) {
+            Ok(Next::Found((lines, figure))) => {
+                self.lines = lines;
+                Ok(Some(figure))
+            }
+            Ok(Next::Done) => Ok(None),
+            Err(fault) => Err(fault),
+        }
     }
 
     pub fn chain(&self) -> &[u16]
