@@ -77,7 +77,14 @@ fn avoid(book: &Book, left: &[u32; MOST_LINES], account: u8, walked: &[u16], cha
 }
 
 // At the account that a line of the chain leaves, by the lines of the chain before it.
-fn turn(book: &Book, left: &[u32; MOST_LINES], account: u8, walked: &[u16], front: &[u16], line: u16) -> u16
+fn turn(
+    book: &Book,
+    left: &[u32; MOST_LINES],
+    account: u8,
+    walked: &[u16],
+    front: &[u16],
+    line: u16,
+) -> u16
     ensures { λ r. ⌜ r ≡ turn (now (front .entry)) line (lines (now (book .entry))) (now (left .entry)) account (now (walked .entry)) ⌝ }
 {
     if walked.ends_with(front) {

@@ -27,7 +27,11 @@ fn leaves_account(line: Line, account: u8) -> bool
     ensures { λ r. ⌜ r ≡ leaves account line ⌝ }
 {
     match line {
-        Line::Live { from, to: _, amount: _ } => from == account,
+        Line::Live {
+            from,
+            to: _,
+            amount: _,
+        } => from == account,
         Line::Struck => false,
     }
 }

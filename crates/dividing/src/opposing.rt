@@ -20,7 +20,12 @@ use chains::Fault;
 use chains::check_chain;
 
 // Divides a balanced book under the rule that avoids the chain, and answers how many rows there are.
-pub fn counter(book: &Book, chain: &[u16], rows: &mut [u16], tonnes: &mut [u32]) -> Result<usize, Fault>
+pub fn counter(
+    book: &Book,
+    chain: &[u16],
+    rows: &mut [u16],
+    tonnes: &mut [u32],
+) -> Result<usize, Fault>
     ensures stop { λ r. ⌜ ((o : Outcome) → checked r o ≡ counterStopped (lines (now (book .entry))) (now (chain .entry)) (length (now (rows .entry))) (length (now (tonnes .entry))) o) ⌝ }
     ensures filled { λ r. ⌜ Answered (avoiding (now (chain .entry))) (lines (now (book .entry))) (now (rows .entry)) (now (tonnes .entry)) r (now (rows .exit)) (now (tonnes .exit)) ⌝ }
     ensures opposed { λ r. ⌜ made r (λ _. (rs : List Row) → Dividing (avoiding (now (chain .entry))) (lines (now (book .entry))) rs → Opposed (lines (now (book .entry))) (now (chain .entry)) rs) ⌝ }

@@ -1,4 +1,4 @@
-use mathlib.Core.Path.{sym, _∙_}
+use mathlib.Core.Path.{_∙_}
 use native.Mathlib.Omega.{arith}
 use Rattle.book.specs.Lines.{lines}
 use Rattle.dividing.proofs.OpenLines.{spent-shut, open-if-leaves}
