@@ -3,7 +3,7 @@
 use mathlib.Core.Bool.{false}
 use mathlib.Core.List.{List, [], _∷_, map}
 use mathlib.Core.Logic.{⊎-elim}
-use mathlib.Core.Path.{_≡_, refl, sym, ap, subst, _∙_}
+use mathlib.Core.Path.{_≡_, sym, ap, subst, _∙_}
 use Prim.Native.Nat.{ℕ, zero, suc, _+_, _-_, _<_, _≤_}
 use native.Mathlib.Omega.{arith}
 use lib.ListN.{length, getD, set, drop, replicate}
@@ -50,10 +50,10 @@ length-amounts t few =
 pub amounts-all : (t : Tally) (left : List ℕ) → length t ≤ mostLines → AmountsTo t (length t) left → left ≡ amounts t
 amounts-all t left few so =
     ext-getD 0 left (amounts t) (so .whole ∙ sym (length-amounts t few)) (λ i lt.
-        ⊎-elim
-        (λ posted. so .filled i posted ∙ sym (getD-amounts t i))
-        (λ past. so .blank i past ∙ sym (getD-amounts t i ∙ ap amountOf (getD-past t i Struck past)))
-        (cases-lt i (length t)))
+    ⊎-elim
+    (λ posted. so .filled i posted ∙ sym (getD-amounts t i))
+    (λ past. so .blank i past ∙ sym (getD-amounts t i ∙ ap amountOf (getD-past t i Struck past)))
+    (cases-lt i (length t)))
 
 apart-drop : (i : ℕ) (c : List ℕ) → Apart c → Apart (drop i c)
 apart-drop zero c apart = apart

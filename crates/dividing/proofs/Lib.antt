@@ -5,3 +5,4 @@ pub mod Sourcing
 pub mod Walking
 pub mod Rowing
 pub mod Tabled
+pub mod AvoidingSteps

@@ -1,12 +1,11 @@
 -- Whether a line is open, and the lowest number that passes a test. Assumes nothing.
 use mathlib.Core.Bool.{Bool, true, false, _&&_}
 use mathlib.Core.List.{List}
-use mathlib.Core.Path.{_≡_, refl, sym, ap, _∙_}
+use mathlib.Core.Path.{_≡_, refl, sym, _∙_}
 use Prim.Native.Nat.{ℕ, zero, suc, _+_, _<_, _≤_}
 use native.Mathlib.Omega.{arith}
 use lib.Dec.{ltb}
-use lib.ListN.{length, getD}
-use Rattle.std.proofs.shelf.Lists.{getD-past}
+use lib.ListN.{getD}
 use Rattle.std.proofs.shelf.Tests.{and-right, cond-false, le-ltb, lt-ltb}
 use Rattle.book.specs.Search.{lowestOf}
 use Rattle.book.specs.Tally.{Tally, at}

@@ -1,9 +1,9 @@
 -- A walk as the next row: its lines in the row's entries, and its tonnes taken off. Assumes nothing.
 use mathlib.Core.List.{List, [], _∷_, _++_}
-use mathlib.Core.Path.{_≡_, refl, sym, ap, subst, _∙_}
+use mathlib.Core.Path.{_≡_, refl, ap, _∙_}
 use Prim.Native.Nat.{ℕ, suc, _+_, _-_, _<_}
 use native.Mathlib.Omega.{arith}
-use lib.ListN.{length, getD, set, take, drop}
+use lib.ListN.{length, set, take, drop}
 use Rattle.std.proofs.shelf.Lists.{take-at}
 use Rattle.std.specs.shelf.Lists.{All}
 use Rattle.book.specs.Overlay.{laid, over}
@@ -60,10 +60,10 @@ module _ (choice : Choice) (t : Tally) (left : List ℕ) (start : ℕ) (before :
         let new = length (walked .lines) ∷ walked .lines in
         let none : length new ≡ 0 + length new = omega arith in
         record {
-      row = row;
-      is-row = is-row;
-      tonnes-so = refl;
-      taken-off = taken ∙ ap (off left least) lines-part;
-      short = omega (arith, walked .counted, walked .short);
-      table = row-table ∙ ap (λ k. new ++ drop k before) none;
-    }
+          row = row;
+          is-row = is-row;
+          tonnes-so = refl;
+          taken-off = taken ∙ ap (off left least) lines-part;
+          short = omega (arith, walked .counted, walked .short);
+          table = row-table ∙ ap (λ k. new ++ drop k before) none;
+        }

@@ -1,9 +1,9 @@
 -- The lowest origin that has an open line, line by line. Assumes nothing.
 --   Lowest   the lowest such account over the lines below a number
-use mathlib.Core.Bool.{true, false}
+use mathlib.Core.Bool.{true}
 use mathlib.Core.List.{List}
 use mathlib.Core.Logic.{⊎-elim}
-use mathlib.Core.Path.{_≡_, sym, ap, subst, _∙_}
+use mathlib.Core.Path.{_≡_, sym, subst, _∙_}
 use Prim.Native.Nat.{ℕ, suc, _+_, _<_, _≤_}
 use native.Mathlib.Omega.{arith}
 use lib.ListN.{length, getD}
@@ -17,7 +17,7 @@ use Rattle.dividing.specs.Sources.{LowestSource, SourceOf}
 use Rattle.flow.proofs.ChainFacts.{leaves-from, leaves-own, leaves-some, leaves-within}
 use Rattle.flow.proofs.RuleLaws.{open-from, open-leaves, open-some}
 use Rattle.flow.proofs.Sums.{false-unless}
-use Rattle.flow.proofs.Walks.{Fair, open-left, open-origin}
+use Rattle.flow.proofs.Walks.{Fair, open-origin}
 use Rattle.flow.specs.Chains.{fromOf, Origin}
 use Rattle.flow.specs.Rules.{Open}
 

@@ -19,8 +19,8 @@ use Rattle.dividing.specs.Tables.{rowStride, written}
 use Rattle.flow.proofs.Divided.{fair-after, fair-amounts, divides-alone, dividing-split, row-lessens}
 use Rattle.flow.proofs.TonnesLeft.{openCount, openCount-amounts}
 use Rattle.flow.proofs.Walks.{Fair}
-use Rattle.flow.specs.Dividing.{amounts, off, Divides, Dividing}
-use Rattle.flow.specs.Rules.{Choice, Open}
+use Rattle.flow.specs.Dividing.{amounts, Divides, Dividing}
+use Rattle.flow.specs.Rules.{Choice}
 use Rattle.flow.specs.Splits.{Row}
 
 written-push : (table : List ℕ) (i : ℕ) (done : List Row) (row : Row) → written table i (done ++ row ∷ []) ≡ laid (written table i done) (rowStride * (i + length done)) (length (row .chain) ∷ row .chain)

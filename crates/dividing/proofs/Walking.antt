@@ -1,17 +1,17 @@
 -- A walk under a rule, line by line, as it is written into a row. Assumes nothing.
 --   Walking   the walk so far: it goes on to a whole walk wherever the rest of it does
-use mathlib.Core.Bool.{true, false}
+use mathlib.Core.Bool.{false}
 use mathlib.Core.List.{List, [], _∷_, _++_}
 use mathlib.Core.Logic.{_⊎_, inl, inr, ⊎-elim}
 use mathlib.Core.Path.{_≡_, refl, sym, ap, subst, _∙_}
-use Prim.Native.Nat.{ℕ, suc, _+_, _-_, _<_, _≤_, min}
+use Prim.Native.Nat.{ℕ, _+_, _-_, _<_, _≤_, min}
 use native.Mathlib.Omega.{arith}
 use lib.ListN.{length, getD, set, take, drop}
 use Rattle.std.proofs.shelf.Lists.{append-assoc, append-nil, drop-at, drop-more, length-append, length-push, length-set, length-take-le, set-at, take-append-drop, take-at}
 use Rattle.std.proofs.shelf.Tests.{both-ways}
 use Rattle.book.proofs.Balance.{touched}
 use Rattle.book.specs.Limits.{accounts}
-use Rattle.book.specs.Overlay.{laid, over}
+use Rattle.book.specs.Overlay.{laid}
 use Rattle.book.specs.Tally.{Tally, at, WellFormed}
 use Rattle.book.specs.Totals.{any, leaves, Leaves, outTotal}
 use Rattle.book.specs.declared.table.Side.the-variants.{Out}
@@ -19,9 +19,8 @@ use Rattle.dividing.specs.Rows.{Followed, Walked}
 use Rattle.dividing.specs.Sources.{LowestSource}
 use Rattle.flow.proofs.Sums.{false-unless}
 use Rattle.flow.proofs.Walks.{Fair, open-on}
-use Rattle.flow.specs.Chains.{toOf}
 use Rattle.flow.specs.Dividing.{Walk, leastLeft}
-use Rattle.flow.specs.Rules.{Choice, Law, Open}
+use Rattle.flow.specs.Rules.{Choice, Open}
 
 -- a number set right behind a list that is laid
 module _ (table : List ℕ) (at : ℕ) (w : List ℕ) (n : ℕ) (fits : at + length w < length table) where

@@ -63,15 +63,15 @@ module _ (t : Tally) (left : List ℕ) (a : ℕ) where
     unexceeded : (f : First t left a (length t) best most) → isExceeded t left a best ≡ false
     unexceeded f =
         someOf-false (exceeds best) 0 (length t) (λ m ge lt. false-unless (exceeds best m) (λ h.
-            let both = and-parts (isOpen t left a m) (ltb (getD left best 0) (getD left m 0)) h in
-            omega (arith, ltb-true (getD left best 0) (getD left m 0) (both .1), bounded m (both .0), f .tonnes)))
+        let both = and-parts (isOpen t left a m) (ltb (getD left best 0) (getD left m 0)) h in
+        omega (arith, ltb-true (getD left best 0) (getD left m 0) (both .1), bounded m (both .0), f .tonnes)))
 
     lower : First t left a (length t) best most → (k : ℕ) → k < best → passes k ≡ false
     lower f k lt =
         false-unless (passes k) (λ h.
-            let both = and-parts (isOpen t left a k) (not (isExceeded t left a k)) h in
-            let more = and-from (isOpen t left a best) (ltb (getD left k 0) (getD left best 0)) (f .opened) (lt-ltb (getD left k 0) (getD left best 0) (omega (arith, f .first k lt (both .0), f .tonnes))) in
-            both-ways (isExceeded t left a k) (not-true (isExceeded t left a k) (both .1)) (someOf-true (exceeds k) 0 (length t) best (omega arith) (omega (arith, f .below)) more))
+        let both = and-parts (isOpen t left a k) (not (isExceeded t left a k)) h in
+        let more = and-from (isOpen t left a best) (ltb (getD left k 0) (getD left best 0)) (f .opened) (lt-ltb (getD left k 0) (getD left best 0) (omega (arith, f .first k lt (both .0), f .tonnes))) in
+        both-ways (isExceeded t left a k) (not-true (isExceeded t left a k) (both .1)) (someOf-true (exceeds k) 0 (length t) best (omega arith) (omega (arith, f .below)) more))
 
     pub best-all : (walked : List ℕ) → best ≡ widest t left a walked
     best-all walked =
@@ -79,7 +79,7 @@ module _ (t : Tally) (left : List ℕ) (a : ℕ) where
         (λ none.
         none .0
         ∙ sym (lowestOf-none passes 0 0 (length t) (λ k ge lt. false-unless (passes k) (λ h.
-            let opened = and-parts (isOpen t left a k) (not (isExceeded t left a k)) h .0 in
-            omega (arith, bounded k opened, open-some t left a k opened, none .1)))))
+        let opened = and-parts (isOpen t left a k) (not (isExceeded t left a k)) h .0 in
+        omega (arith, bounded k opened, open-some t left a k opened, none .1)))))
         (λ f. sym (lowestOf-first passes 0 0 (length t) best (omega arith) (omega (arith, f .below)) (and-from (isOpen t left a best) (not (isExceeded t left a best)) (f .opened) (not-from-false (isExceeded t left a best) (unexceeded f))) (λ k ge lt. lower f k lt)))
         (so .found)

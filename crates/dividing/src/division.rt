@@ -35,7 +35,12 @@ pub fn fill<R: Rule>(book: &Book, rule: &R, rows: &mut [u16], tonnes: &mut [u32]
 }
 
 // Divides a balanced book under the rule into the tables, and answers how many rows there are.
-pub fn divide<R: Rule>(book: &Book, rule: &R, rows: &mut [u16], tonnes: &mut [u32]) -> Result<usize, Fault>
+pub fn divide<R: Rule>(
+    book: &Book,
+    rule: &R,
+    rows: &mut [u16],
+    tonnes: &mut [u32],
+) -> Result<usize, Fault>
     ensures stop { λ r. ⌜ ((o : Outcome) → checked r o ≡ divideStopped (lines (now (book .entry))) (length (now (rows .entry))) (length (now (tonnes .entry))) o) ⌝ }
     ensures filled { λ r. ⌜ Answered (choice (now (rule .entry))) (lines (now (book .entry))) (now (rows .entry)) (now (tonnes .entry)) r (now (rows .exit)) (now (tonnes .exit)) ⌝ }
 {

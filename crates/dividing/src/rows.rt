@@ -26,7 +26,13 @@ fn lesser(a: u32, b: u32) -> u32
 }
 
 // Asks the rule at an account that has an open line: the line that it names, the account that this line enters and its tonnes left.
-fn follow<R: Rule>(book: &Book, rule: &R, left: &[u32; MOST_LINES], account: u8, walked: &[u16]) -> (u16, u8, u32)
+fn follow<R: Rule>(
+    book: &Book,
+    rule: &R,
+    left: &[u32; MOST_LINES],
+    account: u8,
+    walked: &[u16],
+) -> (u16, u8, u32)
     requires sound { ⌜ WellFormed (lines (now book)) ⌝ }
     requires opened { ⌜ ((n : ℕ) × Open (lines (now book)) (now left) account n) ⌝ }
     ensures { λ r. ⌜ Followed (choice (now (rule .entry))) (lines (now (book .entry))) (now (left .entry)) account (now (walked .entry)) (r .0) (r .1) (r .2) ⌝ }
@@ -38,7 +44,14 @@ fn follow<R: Rule>(book: &Book, rule: &R, left: &[u32; MOST_LINES], account: u8,
 
 // Walks from an account to an end account, and writes each line behind the row's first entry. Answers how many lines the walk
 // has and the least tonnes left along it.
-fn walk<R: Rule>(book: &Book, rule: &R, outs: &[u32; ACCOUNTS], left: &[u32; MOST_LINES], start: u8, row: &mut [u16]) -> (usize, u32)
+fn walk<R: Rule>(
+    book: &Book,
+    rule: &R,
+    outs: &[u32; ACCOUNTS],
+    left: &[u32; MOST_LINES],
+    start: u8,
+    row: &mut [u16],
+) -> (usize, u32)
     requires sound { ⌜ WellFormed (lines (now book)) ⌝ }
     requires fair { ⌜ Fair (lines (now book)) (now left) ⌝ }
     requires totals { ⌜ ((a : ℕ) → a < accounts → getD (now outs) a 0 ≡ outTotal (lines (now book)) a) ⌝ }
@@ -60,7 +73,14 @@ fn walk<R: Rule>(book: &Book, rule: &R, outs: &[u32; ACCOUNTS], left: &[u32; MOS
 }
 
 // Writes the next row, which begins at the account, and takes its tonnes off its lines. Answers the tonnes.
-fn put_row<R: Rule>(book: &Book, rule: &R, outs: &[u32; ACCOUNTS], start: u8, left: &mut [u32; MOST_LINES], row: &mut [u16]) -> u32
+fn put_row<R: Rule>(
+    book: &Book,
+    rule: &R,
+    outs: &[u32; ACCOUNTS],
+    start: u8,
+    left: &mut [u32; MOST_LINES],
+    row: &mut [u16],
+) -> u32
     requires sound { ⌜ WellFormed (lines (now book)) ⌝ }
     requires fair { ⌜ Fair (lines (now book)) (now left) ⌝ }
     requires totals { ⌜ ((a : ℕ) → a < accounts → getD (now outs) a 0 ≡ outTotal (lines (now book)) a) ⌝ }
@@ -75,7 +95,15 @@ fn put_row<R: Rule>(book: &Book, rule: &R, outs: &[u32; ACCOUNTS], start: u8, le
 }
 
 // Writes the next row as the one of that number into the table of rows.
-pub fn put_numbered<R: Rule>(book: &Book, rule: &R, outs: &[u32; ACCOUNTS], start: u8, left: &mut [u32; MOST_LINES], number: usize, rows: &mut [u16]) -> u32
+pub fn put_numbered<R: Rule>(
+    book: &Book,
+    rule: &R,
+    outs: &[u32; ACCOUNTS],
+    start: u8,
+    left: &mut [u32; MOST_LINES],
+    number: usize,
+    rows: &mut [u16],
+) -> u32
     requires sound { ⌜ WellFormed (lines (now book)) ⌝ }
     requires fair { ⌜ Fair (lines (now book)) (now left) ⌝ }
     requires totals { ⌜ ((a : ℕ) → a < accounts → getD (now outs) a 0 ≡ outTotal (lines (now book)) a) ⌝ }
@@ -84,5 +112,12 @@ pub fn put_numbered<R: Rule>(book: &Book, rule: &R, outs: &[u32; ACCOUNTS], star
     ensures { λ r. ⌜ RowPut (choice (now (rule .entry))) (lines (now (book .entry))) (now (left .entry)) (rowStride * number) (now (rows .entry)) r (now (left .exit)) (now (rows .exit)) ⌝ }
 {
     let at = ROW_STRIDE * number;
-    put_row(book, rule, outs, start, left, &mut rows[at..at + ROW_STRIDE])
+    put_row(
+        book,
+        rule,
+        outs,
+        start,
+        left,
+        &mut rows[at..at + ROW_STRIDE],
+    )
 }

@@ -10,11 +10,12 @@ ghost use Rattle.dividing.specs.Sources.{NextSource, SourceOf};
 ghost use Rattle.flow.proofs.Walks.{Fair};
 use book::ACCOUNTS;
 use book::Book;
+use book::HIGHEST_ACCOUNT;
 use book::MOST_LINES;
 use chains::parts;
 
 // above every account
-const NO_ACCOUNT: u8 = 64;
+const NO_ACCOUNT: u8 = HIGHEST_ACCOUNT + 1;
 
 // The lowest origin that has an open line, by the in-totals of all accounts.
 pub fn next_source(book: &Book, ins: &[u32; ACCOUNTS], left: &[u32; MOST_LINES]) -> Option<u8>

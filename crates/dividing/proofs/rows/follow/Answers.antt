@@ -1,8 +1,7 @@
-use mathlib.Core.Path.{sym, subst, _∙_}
+use mathlib.Core.Path.{sym, subst}
 use native.Mathlib.Omega.{arith}
 use borrow.Author.Needs.{needs}
 use Rattle.book.specs.Lines.{lines}
-use Rattle.book.specs.Tally.{at}
 use Rattle.flow.proofs.ChainFacts.{leaves-within, rises, entered-within}
 use Rattle.flow.proofs.RuleLaws.{open-leaves}
 use Rattle.flow.specs.Rules.{Open}

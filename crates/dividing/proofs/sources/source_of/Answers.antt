@@ -1,4 +1,3 @@
-use mathlib.Core.Path.{sym, _∙_}
 use native.Mathlib.Omega.{arith}
 use Rattle.book.specs.Lines.{lines}
 use Rattle.dividing.proofs.Sourcing.{source-spent, source-entered, source-found}
