@@ -3,3 +3,4 @@ pub mod Branching
 pub mod Leftward
 pub mod Remaining
 pub mod Picking
+pub mod Reading

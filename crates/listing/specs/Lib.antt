@@ -3,3 +3,4 @@ pub mod Growth
 pub mod After
 pub mod Walks
 pub mod Picks
+pub mod Wholes

@@ -70,6 +70,7 @@ fn write(walk: &Walk, row: &mut [u16])
 pub fn next(book: &Book, floor: u32, given: usize, row: &mut [u16]) -> Result<Next, Fault>
     ensures stop { λ r. ⌜ ((o : Outcome) → checked r o ≡ nextStopped (lines (now (book .entry))) floor (length (now (row .entry))) given o) ⌝ }
     ensures answer { λ r. ⌜ Answered (lines (now (book .entry))) floor given (now (row .entry)) r (now (row .exit)) ⌝ }
+    ensures passed { λ r. ⌜ made r (λ _. (0 < floor) × Balanced (lines (now (book .entry))) × WellFormed (lines (now (book .entry)))) ⌝ }
 {
     check_request(floor, row.len(), given)?;
     check_balance(book)?;

@@ -41,7 +41,13 @@ fn grows_left(book: &Book, total: u32, floor: u32, account: u8, tonnes: u64) -> 
 }
 
 // A certain chain is greatest where it grows neither to the right nor to the left.
-pub fn is_greatest(book: &Book, totals: &[u32; ACCOUNTS], floor: u32, walk: &Walk, reach: Reach) -> bool
+pub fn is_greatest(
+    book: &Book,
+    totals: &[u32; ACCOUNTS],
+    floor: u32,
+    walk: &Walk,
+    reach: Reach,
+) -> bool
     requires totals { ⌜ length (now totals) ≡ accounts ⌝ ∗ ⌜ ((a : ℕ) → a < accounts → getD (now totals) a 0 ≡ inTotal (lines (now book)) a) ⌝ }
     requires some { ⌜ 0 < floor ⌝ }
     requires balanced { ⌜ Balanced (lines (now book)) ⌝ ∗ ⌜ WellFormed (lines (now book)) ⌝ }

@@ -5,6 +5,10 @@ mod nexts;
 mod reach;
 mod steps;
 mod walk;
+mod whole;
 
 pub use finding::next;
 pub use nexts::Next;
+pub use whole::ListFault;
+pub use whole::Listed;
+pub use whole::read_list;

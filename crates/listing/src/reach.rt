@@ -20,7 +20,13 @@ pub struct Reach {
 }
 
 // What a chain, or no line, comes to with one line more, where that is certain.
-fn grow(book: &Book, totals: &[u32; ACCOUNTS], floor: u32, before: Option<Reach>, line: u16) -> Option<Reach>
+fn grow(
+    book: &Book,
+    totals: &[u32; ACCOUNTS],
+    floor: u32,
+    before: Option<Reach>,
+    line: u16,
+) -> Option<Reach>
     requires totals { ⌜ length (now totals) ≡ accounts ⌝ ∗ ⌜ ((a : ℕ) → a < accounts → getD (now totals) a 0 ≡ inTotal (lines (now book)) a) ⌝ }
     requires small { ⌜ held before ≤ longestChain * greatestAmount ⌝ }
     ensures { λ r. ⌜ r ≡ grown (lines (now (book .entry))) floor before line ⌝ }
@@ -31,7 +37,10 @@ fn grow(book: &Book, totals: &[u32; ACCOUNTS], floor: u32, before: Option<Reach>
             if amount < floor {
                 return None;
             }
-            Some(Reach { account: to, tonnes: amount as u64 })
+            Some(Reach {
+                account: to,
+                tonnes: amount as u64,
+            })
         }
         Some(reach) => {
             let total = totals[from as usize] as u64;
@@ -39,13 +48,22 @@ fn grow(book: &Book, totals: &[u32; ACCOUNTS], floor: u32, before: Option<Reach>
             if reach.account != from || amount == 0 || joined < total + floor as u64 {
                 return None;
             }
-            Some(Reach { account: to, tonnes: joined - total })
+            Some(Reach {
+                account: to,
+                tonnes: joined - total,
+            })
         }
     }
 }
 
 // The lowest line, from a number on, by which a chain, or no line, grows, and what it then comes to.
-pub fn first_growth(book: &Book, totals: &[u32; ACCOUNTS], floor: u32, before: Option<Reach>, lowest: usize) -> Option<(u16, Reach)>
+pub fn first_growth(
+    book: &Book,
+    totals: &[u32; ACCOUNTS],
+    floor: u32,
+    before: Option<Reach>,
+    lowest: usize,
+) -> Option<(u16, Reach)>
     requires totals { ⌜ length (now totals) ≡ accounts ⌝ ∗ ⌜ ((a : ℕ) → a < accounts → getD (now totals) a 0 ≡ inTotal (lines (now book)) a) ⌝ }
     requires some { ⌜ 0 < floor ⌝ }
     requires small { ⌜ held before ≤ longestChain * greatestAmount ⌝ }
@@ -61,7 +79,12 @@ pub fn first_growth(book: &Book, totals: &[u32; ACCOUNTS], floor: u32, before: O
 }
 
 // How many numbers, from the first on, are a certain chain, and what that has come to.
-pub fn front(book: &Book, totals: &[u32; ACCOUNTS], floor: u32, given: &[u16]) -> (usize, Option<Reach>)
+pub fn front(
+    book: &Book,
+    totals: &[u32; ACCOUNTS],
+    floor: u32,
+    given: &[u16],
+) -> (usize, Option<Reach>)
     requires totals { ⌜ length (now totals) ≡ accounts ⌝ ∗ ⌜ ((a : ℕ) → a < accounts → getD (now totals) a 0 ≡ inTotal (lines (now book)) a) ⌝ }
     requires some { ⌜ 0 < floor ⌝ }
     requires balanced { ⌜ Balanced (lines (now book)) ⌝ ∗ ⌜ WellFormed (lines (now book)) ⌝ }

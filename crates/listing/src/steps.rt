@@ -16,7 +16,13 @@ use book::ACCOUNTS;
 use book::Book;
 
 // The lowest line that, behind the first lines of the walk, makes a later certain chain.
-fn branch(book: &Book, totals: &[u32; ACCOUNTS], floor: u32, walk: &Walk, kept: usize) -> Option<(Walk, Reach)>
+fn branch(
+    book: &Book,
+    totals: &[u32; ACCOUNTS],
+    floor: u32,
+    walk: &Walk,
+    kept: usize,
+) -> Option<(Walk, Reach)>
     requires totals { ⌜ length (now totals) ≡ accounts ⌝ ∗ ⌜ ((a : ℕ) → a < accounts → getD (now totals) a 0 ≡ inTotal (lines (now book)) a) ⌝ }
     requires some { ⌜ 0 < floor ⌝ }
     requires balanced { ⌜ Balanced (lines (now book)) ⌝ ∗ ⌜ WellFormed (lines (now book)) ⌝ }

@@ -27,7 +27,10 @@ impl Walk {
     {
         let mut lines = self.lines;
         lines[kept] = line;
-        Walk { lines, count: kept + 1 }
+        Walk {
+            lines,
+            count: kept + 1,
+        }
     }
 
     // The lowest number that makes a later list, put behind the first lines.
