@@ -43,9 +43,12 @@ module _ (t : Tally) (left : List ℕ) where
     within = omega arith;
   }
 
+  some-live : Fair t left → (n : ℕ) → 0 < getD left n 0 → isLive (at t n) ≡ true
+  some-live fair n some = ⊎-elim (λ live. live) (λ struck. absurd (omega (arith, fair .spent n struck))) (cases-bool (isLive (at t n)))
+
   pub source-found : WellFormed t → Fair t left → (n from : ℕ) → from ≡ fromOf (at t n) → from < accounts → inTotal t from ≡ 0 → 0 < getD left n 0 → SourceOf t left n from
   source-found well fair n from is placed none some =
-      let live : isLive (at t n) ≡ true = ⊎-elim (λ live. live) (λ struck. absurd (omega (arith, fair .spent n struck))) (cases-bool (isLive (at t n))) in
+      let live = some-live fair n some in
       let out : leaves from (at t n) ≡ true = subst (λ a. leaves a (at t n) ≡ true) (sym is) (leaves-own (at t n) live) in
       record {
         bound = λ b lt origin opened. omega (arith, is, leaves-from b (at t n) (open-leaves t left b n opened));
@@ -93,7 +96,7 @@ module _ (t : Tally) (left : List ℕ) where
     lowest-nothing fair none n =
         ⊎-elim
         (λ some.
-        let live : isLive (at t n) ≡ true = ⊎-elim (λ live. live) (λ struck. absurd (omega (arith, fair .spent n struck))) (cases-bool (isLive (at t n))) in
+        let live = some-live fair n some in
         let from = open-origin t left well fair (suc (fromOf (at t n))) n (omega arith) live some in
         absurd (omega (arith, low (from .0) (from .1) (from .2) (from .3), origin-within (from .0) (from .2))))
         (λ nothing. omega arith)
