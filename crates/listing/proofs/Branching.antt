@@ -4,9 +4,8 @@ use mathlib.Core.Logic.{_⊎_, inl, inr, ⊎-elim}
 use mathlib.Core.Path.{_≡_, refl, sym, ap, subst, _∙_}
 use Prim.Native.Nat.{ℕ, _+_, _-_, _<_, _≤_}
 use native.Mathlib.Omega.{arith}
-use lib.Dec.{ltb}
 use lib.ListN.{length, take, drop, getD}
-use Rattle.std.proofs.shelf.Lists.{append-assoc, append-nil, drop-all, drop-more, length-push, length-take-le, take-append-drop, take-all, take-more, take-take}
+use Rattle.std.proofs.shelf.Lists.{append-assoc, drop-all, drop-more, length-push, length-take-le, take-append-drop, take-all, take-more, take-take}
 use Rattle.std.proofs.shelf.Tests.{cases-lt, cond-false, cond-true, le-ltb, lt-ltb}
 use Rattle.std.specs.declared.option.Option.{Option}
 use Rattle.std.specs.declared.option.Option.the-variants.{Some, None}
@@ -16,7 +15,7 @@ use Rattle.flow.proofs.ChainFacts.{chain-short}
 use Rattle.flow.specs.Chains.{longestChain}
 use Rattle.flow.specs.Listing.{Before}
 use Rattle.listing.proofs.Growing.{beginning-certain, grown-none, grown-some}
-use Rattle.listing.specs.After.{Barren, FirstCertain, lowestAfter, NoCertain, Open}
+use Rattle.listing.specs.After.{Barren, FirstCertain, lowestAfter, Open}
 use Rattle.listing.specs.Growth.{CertainChain, Comes, FirstGrown, Front, Reached}
 use Rattle.listing.specs.Walks.{Found}
 use Rattle.listing.specs.declared.reach.Reach.{Reach}

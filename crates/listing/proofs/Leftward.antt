@@ -1,18 +1,17 @@
 -- A certain chain grows to the left by the lines that `precedes` accepts, and is greatest where it grows at neither end. Assumes nothing.
-use mathlib.Core.Bool.{true, false, _&&_}
-use mathlib.Core.List.{List, [], _∷_, _++_}
-use mathlib.Core.Path.{_≡_, refl, sym, ap, subst, _∙_}
+use mathlib.Core.Bool.{true, false}
+use mathlib.Core.List.{List, [], _∷_}
+use mathlib.Core.Path.{_≡_, refl, sym, ap, subst}
 use Prim.Native.Nat.{ℕ, _+_, _<_, _≤_}
 use native.Mathlib.Omega.{arith}
-use lib.Dec.{eqb, leb, ltb}
+use lib.Dec.{eqb, ltb}
 use lib.IntN.{pos}
 use lib.ListN.{length, getD}
 use Rattle.std.proofs.shelf.Lists.{getD-past}
 use Rattle.std.proofs.shelf.Signed.{ints}
 use Rattle.std.proofs.shelf.Tests.{and-from, and-left, and-parts, and-right, both-ways, eq-eqb, eqb-true, le-leb, leb-true, lt-ltb, ltb-true}
-use Rattle.std.specs.declared.option.Option.{Option}
 use Rattle.std.specs.declared.option.Option.the-variants.{Some, None}
-use Rattle.book.specs.Tally.{Tally, at, isLive, WellFormed}
+use Rattle.book.specs.Tally.{Tally, at, WellFormed}
 use Rattle.book.specs.Totals.{amountOf, inTotal, Balanced}
 use Rattle.book.specs.declared.entries.Line.the-variants.{Struck}
 use Rattle.flow.proofs.ChainFacts.{chain-runs, chain-step, leaves-from, runs-step, sound-at}

@@ -1,14 +1,13 @@
 -- Going through the certain chains in order up to the first greatest one. Assumes nothing.
 use mathlib.Core.List.{List}
 use mathlib.Core.Logic.{inl, inr}
-use mathlib.Core.Path.{_≡_, sym, ap, subst}
+use mathlib.Core.Path.{ap, subst}
 use Prim.Native.Nat.{ℕ, _+_, _<_}
 use native.Mathlib.Omega.{arith}
 use Rattle.std.specs.declared.option.Option.{Option}
 use Rattle.std.specs.declared.option.Option.the-variants.{Some, None}
 use Rattle.book.specs.Tally.{Tally, WellFormed}
 use Rattle.book.specs.Totals.{Balanced}
-use Rattle.chains.specs.Certainty.{Agreed}
 use Rattle.flow.proofs.Certainty.{figure-is-least}
 use Rattle.flow.proofs.Order.{before-transitive, compare-before}
 use Rattle.flow.specs.Excess.{positive}

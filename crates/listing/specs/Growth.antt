@@ -6,7 +6,7 @@
 --   precedes       whether a line before a chain makes a longer certain one
 --   Front          the longest beginning of a list that is a certain chain, and what it has come to
 use mathlib.Core.Bool.{Bool, true, false, cond, _&&_}
-use mathlib.Core.List.{List, [], _∷_}
+use mathlib.Core.List.{List, []}
 use mathlib.Core.Path.{_≡_}
 use Prim.Native.Nat.{ℕ, _+_, _-_, _<_, _≤_}
 use lib.Dec.{eqb, leb, ltb}

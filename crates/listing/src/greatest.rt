@@ -49,7 +49,13 @@ fn grows_left(book: &Book, total: u32, floor: u32, account: u8, tonnes: u64) -> 
 }
 
 // Whether a certain chain is greatest: it is where it grows neither to the right nor to the left. Else the first certain chain after it.
-pub fn judge(book: &Book, totals: &[u32; ACCOUNTS], floor: u32, walk: &Walk, reach: Reach) -> Verdict
+pub fn judge(
+    book: &Book,
+    totals: &[u32; ACCOUNTS],
+    floor: u32,
+    walk: &Walk,
+    reach: Reach,
+) -> Verdict
     requires totals { ⌜ length (now totals) ≡ accounts ⌝ ∗ ⌜ ((a : ℕ) → a < accounts → getD (now totals) a 0 ≡ inTotal (lines (now book)) a) ⌝ }
     requires some { ⌜ 0 < floor ⌝ }
     requires balanced { ⌜ Balanced (lines (now book)) ⌝ ∗ ⌜ WellFormed (lines (now book)) ⌝ }

@@ -38,7 +38,13 @@ fn branch(
 }
 
 // The first certain chain after the walk, where none is left that keeps more than `most` of its lines: branched off from as many as can be kept.
-pub fn climb(book: &Book, totals: &[u32; ACCOUNTS], floor: u32, walk: &Walk, most: usize) -> Option<(Walk, Reach)>
+pub fn climb(
+    book: &Book,
+    totals: &[u32; ACCOUNTS],
+    floor: u32,
+    walk: &Walk,
+    most: usize,
+) -> Option<(Walk, Reach)>
     requires totals { ⌜ length (now totals) ≡ accounts ⌝ ∗ ⌜ ((a : ℕ) → a < accounts → getD (now totals) a 0 ≡ inTotal (lines (now book)) a) ⌝ }
     requires some { ⌜ 0 < floor ⌝ }
     requires balanced { ⌜ Balanced (lines (now book)) ⌝ ∗ ⌜ WellFormed (lines (now book)) ⌝ }

@@ -1,13 +1,11 @@
 use mathlib.Core.Bool.{true, false}
 use mathlib.Core.Path.{_≡_, sym, ap, subst, _∙_}
-use Prim.Native.Nat.{ℕ, _<_}
 use native.Mathlib.Omega.{arith}
-use lib.ListN.{getD, length, take}
+use lib.ListN.{getD, length}
 use Rattle.std.proofs.shelf.Lists.{getD-take, length-take, length-take-le}
 use Rattle.std.specs.declared.option.Option.the-variants.{Some}
 use Rattle.book.specs.Lines.{lines}
 use Rattle.book.specs.Tally.{Tally, at}
-use Rattle.book.specs.Totals.{inTotal}
 use Rattle.flow.specs.Chains.{Chain, fromOf, start}
 use Rattle.listing.proofs.Branching.{whole-grows, whole-short, whole-stops}
 use Rattle.listing.proofs.Growing.{reached-small}
@@ -52,7 +50,7 @@ returns-in-Some c =
     let walk = c .args .walk .now in (
       grows-right t (c .args .floor) (c .pre .balanced .1) (c .pre .balanced .0) (c .pre .some) (path walk) (c .args .reach) (c .pre .comes) (c .in-Some .growth .0) (c .in-Some .growth .1) 0 (c .in-Some .ensures tt),
       subst (λ z. Found t (c .args .floor) (path walk) z (c .in-Some .growth .1)) (sym (c .branch-walk .ensures))
-      (whole-grows t (c .args .floor) (c .pre .balanced .1) (c .pre .balanced .0) (c .pre .some) (path walk) (walk .count) (c .args .reach) (count-of walk) (c .pre .comes) (c .in-Some .growth .0) (c .in-Some .growth .1) (c .in-Some .ensures tt)),
+          (whole-grows t (c .args .floor) (c .pre .balanced .1) (c .pre .balanced .0) (c .pre .some) (path walk) (walk .count) (c .args .reach) (count-of walk) (c .pre .comes) (c .in-Some .growth .0) (c .in-Some .growth .1) (c .in-Some .ensures tt)),
     )
 
 pub climb-requires : need.climb-requires
@@ -72,7 +70,7 @@ returns-then-grows-left c =
     let walk = c .args .walk .now in
     let leaves-first : c .parts-account .result .0 ≡ start t (path walk) = c .parts-account .ensures .from .0 ∙ sym (start-of t walk (c .pre .comes .certain .0)) in (
       grows-before t (c .args .floor) (c .pre .balanced .1) (c .pre .balanced .0) (c .pre .some) (path walk) (c .args .reach) (c .pre .comes)
-      (subst (λ a. Preceded t (c .args .floor) a (c .args .reach .tonnes) true) leaves-first (c .if-grows-left .ensures tt)),
+          (subst (λ a. Preceded t (c .args .floor) a (c .args .reach .tonnes) true) leaves-first (c .if-grows-left .ensures tt)),
       c .climb .ensures,
     )
 
