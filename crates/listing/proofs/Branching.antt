@@ -4,9 +4,8 @@ use mathlib.Core.Logic.{_⊎_, inl, inr, ⊎-elim}
 use mathlib.Core.Path.{_≡_, refl, sym, ap, subst, _∙_}
 use Prim.Native.Nat.{ℕ, _+_, _-_, _<_, _≤_}
 use native.Mathlib.Omega.{arith}
-use lib.Dec.{ltb}
 use lib.ListN.{length, take, drop, getD}
-use Rattle.std.proofs.shelf.Lists.{append-assoc, append-nil, drop-all, drop-more, length-push, length-take-le, take-append-drop, take-all, take-more, take-take}
+use Rattle.std.proofs.shelf.Lists.{append-assoc, drop-all, drop-more, length-push, length-take-le, take-append-drop, take-all, take-more, take-take}
 use Rattle.std.proofs.shelf.Tests.{cases-lt, cond-false, cond-true, le-ltb, lt-ltb}
 use Rattle.std.specs.declared.option.Option.{Option}
 use Rattle.std.specs.declared.option.Option.the-variants.{Some, None}
@@ -16,7 +15,7 @@ use Rattle.flow.proofs.ChainFacts.{chain-short}
 use Rattle.flow.specs.Chains.{longestChain}
 use Rattle.flow.specs.Listing.{Before}
 use Rattle.listing.proofs.Growing.{beginning-certain, grown-none, grown-some}
-use Rattle.listing.specs.After.{Barren, FirstCertain, lowestAfter, NoCertain, Open}
+use Rattle.listing.specs.After.{Barren, FirstCertain, lowestAfter, Open}
 use Rattle.listing.specs.Growth.{CertainChain, Comes, FirstGrown, Front, Reached}
 use Rattle.listing.specs.Walks.{Found}
 use Rattle.listing.specs.declared.reach.Reach.{Reach}
@@ -186,3 +185,32 @@ pub front-held : (t : Tally) (w : ℕ) → WellFormed t → Balanced t → 0 < w
 front-held t w well balanced some ns count k i r within opened f =
     let same : take k (take count ns) ≡ take k ns = take-take k count ns (omega (arith, opened .within, length-take-le count ns within)) in
     front-whole t w well balanced some (take count ns) k i r opened (subst (λ z. Front t w z i r) (sym same) f)
+
+-- a certain chain is open as a whole, and goes on by its own growth
+module _ (t : Tally) (w : ℕ) (well : WellFormed t) (balanced : Balanced t) (some : 0 < w) (c : List ℕ) (n : ℕ) (r : Reach) (all : n ≡ length c) (comes : Comes t w c r) where
+  whole-list : take n c ≡ c
+  whole-list = take-all n c (omega arith)
+
+  whole-open : Open t w c n
+  whole-open = record {
+    within = omega arith;
+    certain = λ _. subst (CertainChain t w) (sym whole-list) (comes .certain);
+    barren = λ inside. absurd (omega arith);
+  }
+
+  whole-reached : Reached t w (take n c) (Some r)
+  whole-reached = subst (λ z. Comes t w z r) (sym whole-list) comes
+
+  whole-lowest : 0 ≡ lowestAfter c n
+  whole-lowest = sym (lowest-end c n (omega arith) (omega arith))
+
+  pub whole-grows : (m : ℕ) (more : Reach) → FirstGrown t w (Some r) 0 (Some (m, more)) → Found t w c (take n c ++ m ∷ []) more
+  whole-grows = growth-found t w well balanced some c n 0 (Some r) whole-open whole-reached whole-lowest
+
+  pub whole-short : (m : ℕ) (more : Reach) → FirstGrown t w (Some r) 0 (Some (m, more)) → n < longestChain
+  whole-short = growth-short t w well balanced some c n 0 (Some r) whole-open whole-reached whole-lowest
+
+  pub whole-stops : FirstGrown t w (Some r) 0 None → 0 < n → Open t w c (n - 1)
+  whole-stops none long =
+      let up : n ≡ n - 1 + 1 = omega arith in
+      open-below t w well balanced some c (n - 1) (subst (Open t w c) up whole-open) (subst (Barren t w c) up (growth-none t w well balanced some c n 0 (Some r) whole-open whole-reached whole-lowest none))

@@ -1,18 +1,17 @@
 -- A certain chain grows to the left by the lines that `precedes` accepts, and is greatest where it grows at neither end. Assumes nothing.
-use mathlib.Core.Bool.{Bool, true, false, not, _&&_}
-use mathlib.Core.List.{List, [], _∷_, _++_}
-use mathlib.Core.Path.{_≡_, refl, sym, ap, subst, _∙_}
+use mathlib.Core.Bool.{true, false}
+use mathlib.Core.List.{List, [], _∷_}
+use mathlib.Core.Path.{_≡_, refl, sym, ap, subst}
 use Prim.Native.Nat.{ℕ, _+_, _<_, _≤_}
 use native.Mathlib.Omega.{arith}
-use lib.Dec.{eqb, leb, ltb}
+use lib.Dec.{eqb, ltb}
 use lib.IntN.{pos}
 use lib.ListN.{length, getD}
 use Rattle.std.proofs.shelf.Lists.{getD-past}
 use Rattle.std.proofs.shelf.Signed.{ints}
 use Rattle.std.proofs.shelf.Tests.{and-from, and-left, and-parts, and-right, both-ways, eq-eqb, eqb-true, le-leb, leb-true, lt-ltb, ltb-true}
-use Rattle.std.specs.declared.option.Option.{Option}
 use Rattle.std.specs.declared.option.Option.the-variants.{Some, None}
-use Rattle.book.specs.Tally.{Tally, at, isLive, WellFormed}
+use Rattle.book.specs.Tally.{Tally, at, WellFormed}
 use Rattle.book.specs.Totals.{amountOf, inTotal, Balanced}
 use Rattle.book.specs.declared.entries.Line.the-variants.{Struck}
 use Rattle.flow.proofs.ChainFacts.{chain-runs, chain-step, leaves-from, runs-step, sound-at}
@@ -22,7 +21,7 @@ use Rattle.flow.specs.Chains.{Chain, fromOf, runs, start, toOf}
 use Rattle.flow.specs.Excess.{excess}
 use Rattle.flow.specs.Splits.{Greatest}
 use Rattle.listing.proofs.Growing.{amount-from-live, certain-excess, certain-from, grown-none, grown-some, linked-chain, live-from-amount}
-use Rattle.listing.specs.Growth.{CertainChain, Comes, FirstGrown, Judged, Preceded, precedes}
+use Rattle.listing.specs.Growth.{CertainChain, Comes, FirstGrown, Preceded, precedes}
 use Rattle.listing.specs.declared.reach.Reach.{Reach}
 
 pub precedes-past : (t : Tally) (w account tonnes n : ℕ) → length t ≤ n → precedes t w account tonnes n ≡ false
@@ -62,11 +61,13 @@ module _ (t : Tally) (w : ℕ) (well : WellFormed t) (balanced : Balanced t) (so
         let longer = grown-some t w well balanced some c (Some r) m more comes (sym (found .1)) .certain in
         greatest-alone t w c greatest .right m (longer .0) (longer .1)
 
-    pub judged : (b : Bool) → FirstGrown t w (Some r) 0 None → Preceded t w (start t c) (r .tonnes) b → Judged t w c (not b)
-    judged true right (n, fits) = λ greatest.
+    pub grows-before : Preceded t w (start t c) (r .tonnes) true → Greatest t w c → ⊥
+    grows-before (n, fits) greatest =
         let longer = longer-left c (r .tonnes) n (comes .certain) (comes .tonnes) fits in
         greatest-alone t w c greatest .left n (longer .0) (longer .1)
-    judged false right none =
+
+    pub grows-nowhere : FirstGrown t w (Some r) 0 None → Preceded t w (start t c) (r .tonnes) false → Greatest t w c
+    grows-nowhere right none =
         alone-greatest t w c (comes .certain .0)
         (record {
           certain = comes .certain .1;

@@ -6,7 +6,7 @@
 --   precedes       whether a line before a chain makes a longer certain one
 --   Front          the longest beginning of a list that is a certain chain, and what it has come to
 use mathlib.Core.Bool.{Bool, true, false, cond, _&&_}
-use mathlib.Core.List.{List, [], _∷_}
+use mathlib.Core.List.{List, []}
 use mathlib.Core.Path.{_≡_}
 use Prim.Native.Nat.{ℕ, _+_, _-_, _<_, _≤_}
 use lib.Dec.{eqb, leb, ltb}
@@ -18,7 +18,7 @@ use Rattle.book.specs.Tally.{Tally, at}
 use Rattle.book.specs.Totals.{amountOf, inTotal}
 use Rattle.flow.specs.Chains.{Chain, finish, fromOf, toOf}
 use Rattle.flow.specs.Excess.{excess}
-use Rattle.flow.specs.Splits.{Certain, Greatest}
+use Rattle.flow.specs.Splits.{Certain}
 use Rattle.listing.specs.declared.reach.Reach.{Reach}
 
 abbrev pub CertainChain : Tally → ℕ → List ℕ → Type 0
@@ -71,8 +71,3 @@ precedes t w account tonnes n =
 abbrev pub Preceded : Tally → ℕ → ℕ → ℕ → Bool → Type 0
 Preceded t w account tonnes true = (n : ℕ) × (precedes t w account tonnes n ≡ true)
 Preceded t w account tonnes false = (n : ℕ) → precedes t w account tonnes n ≡ false
-
--- whether a chain is greatest
-abbrev pub Judged : Tally → ℕ → List ℕ → Bool → Type 0
-Judged t w c true = Greatest t w c
-Judged t w c false = Greatest t w c → ⊥

@@ -13,7 +13,8 @@ ghost use Rattle.listing.specs.Nexts.{nextStopped, Answered};
 ghost use Rattle.listing.specs.Picks.{requestStops, Picked};
 ghost use Rattle.listing.specs.Walks.{path};
 ghost use Rattle.std.specs.Vec.{made};
-use crate::greatest::is_greatest;
+use crate::greatest::Verdict;
+use crate::greatest::judge;
 use crate::nexts::Next;
 use crate::steps::step;
 use crate::walk::Walk;
@@ -46,13 +47,13 @@ fn first_greatest(book: &Book, floor: u32, walk: Walk) -> Option<(Walk, u64)>
     ensures { λ r. ⌜ Picked (lines (now (book .entry))) floor (path walk) r ⌝ }
 {
     let totals = book.in_totals();
-    let mut passed = walk;
-    while let Some(certain) = step(book, &totals, floor, &passed) {
+    let mut ahead = step(book, &totals, floor, &walk);
+    while let Some(certain) = ahead {
         let (found, reach) = certain;
-        if is_greatest(book, &totals, floor, &found, reach) {
-            return Some((found, reach.tonnes));
+        match judge(book, &totals, floor, &found, reach) {
+            Verdict::Greatest => return Some((found, reach.tonnes)),
+            Verdict::Passed(after) => ahead = after,
         }
-        passed = found;
     }
     None
 }

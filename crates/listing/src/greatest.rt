@@ -7,14 +7,22 @@ ghost use Rattle.book.specs.Lines.{lines};
 ghost use Rattle.book.specs.Tally.{WellFormed};
 ghost use Rattle.book.specs.Totals.{inTotal, Balanced};
 ghost use Rattle.flow.specs.Chains.{longestChain};
-ghost use Rattle.listing.specs.Growth.{Comes, precedes, Preceded, Judged};
-ghost use Rattle.listing.specs.Walks.{path};
+ghost use Rattle.listing.specs.Growth.{Comes, precedes, Preceded};
+ghost use Rattle.listing.specs.Walks.{path, Judged};
 use crate::reach::Reach;
 use crate::reach::first_growth;
+use crate::steps::climb;
 use crate::walk::Walk;
 use book::ACCOUNTS;
 use book::Book;
 use chains::parts;
+
+// A certain chain is greatest, or to be passed over for the first certain chain after it.
+#[derive(Clone, Copy)]
+pub enum Verdict {
+    Greatest,
+    Passed(Option<(Walk, Reach)>),
+}
 
 // Whether a line makes a longer certain chain, put before one that leaves the account with that excess.
 fn is_before(book: &Book, total: u32, floor: u32, account: u8, tonnes: u64, line: u16) -> bool
@@ -40,24 +48,28 @@ fn grows_left(book: &Book, total: u32, floor: u32, account: u8, tonnes: u64) -> 
     false
 }
 
-// A certain chain is greatest where it grows neither to the right nor to the left.
-pub fn is_greatest(
+// Whether a certain chain is greatest: it is where it grows neither to the right nor to the left. Else the first certain chain after it.
+pub fn judge(
     book: &Book,
     totals: &[u32; ACCOUNTS],
     floor: u32,
     walk: &Walk,
     reach: Reach,
-) -> bool
+) -> Verdict
     requires totals { ⌜ length (now totals) ≡ accounts ⌝ ∗ ⌜ ((a : ℕ) → a < accounts → getD (now totals) a 0 ≡ inTotal (lines (now book)) a) ⌝ }
     requires some { ⌜ 0 < floor ⌝ }
     requires balanced { ⌜ Balanced (lines (now book)) ⌝ ∗ ⌜ WellFormed (lines (now book)) ⌝ }
     requires comes { ⌜ Comes (lines (now book)) floor (path (now walk)) reach ⌝ }
     ensures { λ r. ⌜ Judged (lines (now (book .entry))) floor (path (now (walk .entry))) r ⌝ }
 {
-    if let Some(_) = first_growth(book, totals, floor, Some(reach), 0) {
-        return false;
+    if let Some(growth) = first_growth(book, totals, floor, Some(reach), 0) {
+        let (line, more) = growth;
+        return Verdict::Passed(Some((walk.branch(walk.count, line), more)));
     }
     let (account, _, _) = parts(book, walk.lines[0]);
     let total = totals[account as usize];
-    !grows_left(book, total, floor, account, reach.tonnes)
+    if grows_left(book, total, floor, account, reach.tonnes) {
+        return Verdict::Passed(climb(book, totals, floor, walk, walk.count - 1));
+    }
+    Verdict::Greatest
 }

@@ -37,15 +37,21 @@ fn branch(
     }
 }
 
-// The first certain chain after the walk: branched off from as many of its lines as can be kept.
-pub fn step(book: &Book, totals: &[u32; ACCOUNTS], floor: u32, walk: &Walk) -> Option<(Walk, Reach)>
+// The first certain chain after the walk, where none is left that keeps more than `most` of its lines: branched off from as many as can be kept.
+pub fn climb(
+    book: &Book,
+    totals: &[u32; ACCOUNTS],
+    floor: u32,
+    walk: &Walk,
+    most: usize,
+) -> Option<(Walk, Reach)>
     requires totals { ⌜ length (now totals) ≡ accounts ⌝ ∗ ⌜ ((a : ℕ) → a < accounts → getD (now totals) a 0 ≡ inTotal (lines (now book)) a) ⌝ }
     requires some { ⌜ 0 < floor ⌝ }
     requires balanced { ⌜ Balanced (lines (now book)) ⌝ ∗ ⌜ WellFormed (lines (now book)) ⌝ }
+    requires opened { ⌜ Open (lines (now book)) floor (path (now walk)) most ⌝ }
     ensures { λ r. ⌜ Stepped (lines (now (book .entry))) floor (path (now (walk .entry))) r ⌝ }
 {
-    let (longest, _) = front(book, totals, floor, &walk.lines[..walk.count]);
-    let mut stem = longest;
+    let mut stem = most;
     loop {
         if let Some(found) = branch(book, totals, floor, walk, stem) {
             return Some(found);
@@ -55,4 +61,15 @@ pub fn step(book: &Book, totals: &[u32; ACCOUNTS], floor: u32, walk: &Walk) -> O
         }
         stem -= 1;
     }
+}
+
+// The first certain chain after the walk, whatever numbers it holds.
+pub fn step(book: &Book, totals: &[u32; ACCOUNTS], floor: u32, walk: &Walk) -> Option<(Walk, Reach)>
+    requires totals { ⌜ length (now totals) ≡ accounts ⌝ ∗ ⌜ ((a : ℕ) → a < accounts → getD (now totals) a 0 ≡ inTotal (lines (now book)) a) ⌝ }
+    requires some { ⌜ 0 < floor ⌝ }
+    requires balanced { ⌜ Balanced (lines (now book)) ⌝ ∗ ⌜ WellFormed (lines (now book)) ⌝ }
+    ensures { λ r. ⌜ Stepped (lines (now (book .entry))) floor (path (now (walk .entry))) r ⌝ }
+{
+    let (longest, _) = front(book, totals, floor, &walk.lines[..walk.count]);
+    climb(book, totals, floor, walk, longest)
 }

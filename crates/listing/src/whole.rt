@@ -1,9 +1,7 @@
 // A list of greatest certain chains, read to its end.
 ghost use mathlib.Core.Path.{_≡_};
-ghost use lib.ListN.{length};
 ghost use Rattle.book.specs.Lines.{lines};
 ghost use Rattle.book.specs.Outcome.{Outcome};
-ghost use Rattle.flow.specs.Chains.{longestChain};
 ghost use Rattle.listing.specs.Nexts.{nextStopped, rowEntries};
 ghost use Rattle.listing.specs.Wholes.{listChecked, Put, Whole};
 ghost use Rattle.std.specs.Of.Vec.{vec-items};

@@ -1,6 +1,5 @@
 use mathlib.Core.Logic.{⊎-elim}
 use native.Mathlib.Omega.{arith}
-use lib.ListN.{length}
 use Rattle.std.proofs.shelf.Tests.{cases-lt}
 use Rattle.book.specs.Lines.{lines}
 use Rattle.listing.proofs.Growing.{grown-past}

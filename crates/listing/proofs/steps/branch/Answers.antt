@@ -1,7 +1,7 @@
 use mathlib.Core.Path.{subst, sym}
 use Prim.Native.Nat.{ℕ, _<_}
 use native.Mathlib.Omega.{arith}
-use lib.ListN.{length, take}
+use lib.ListN.{take}
 use Rattle.std.specs.declared.option.Option.{Option}
 use Rattle.book.specs.Lines.{lines}
 use Rattle.book.specs.Tally.{WellFormed}

@@ -3,7 +3,7 @@ use Prim.Native.Nat.{_+_}
 use native.Mathlib.Omega.{arith}
 use lib.ListN.{length}
 use Rattle.std.proofs.shelf.Lists.{getD-take, length-take-le}
-use Rattle.std.proofs.shelf.Tests.{cond-true, cond-false, lt-ltb, le-ltb}
+use Rattle.std.proofs.shelf.Tests.{cond-true, lt-ltb}
 use Rattle.listing.specs.Walks.{path}
 use Rattle.listing.proofs.walk.Walk.lowest_after.Needs as need
 

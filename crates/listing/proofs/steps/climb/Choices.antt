@@ -1,7 +1,7 @@
 use Rattle.book.specs.Lines.{lines}
 use Rattle.listing.specs.After.{Open}
 use Rattle.listing.specs.Walks.{path}
-use Rattle.listing.proofs.steps.step.Given as given
+use Rattle.listing.proofs.steps.climb.Given as given
 
 abbrev pub Inv-loop-found : given.InvT-loop-found
 Inv-loop-found l = Open (lines (l .book)) (l .floor) (path (l .walk)) (l .stem)
