@@ -5,3 +5,4 @@ pub mod TableRows
 pub mod Printing
 pub mod ListedLines
 pub mod Runs
+pub mod OneStatement

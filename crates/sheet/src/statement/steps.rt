@@ -7,7 +7,7 @@ ghost use Rattle.book.specs.Outcome.{Outcome};
 ghost use Rattle.sheet.specs.Commands.{longestSheet};
 ghost use Rattle.sheet.specs.Page.{Put};
 ghost use Rattle.sheet.specs.Reading.{number, carries};
-ghost use Rattle.sheet.specs.Statements.{shortestPage, clean-state, refusedLine, refusedNext};
+ghost use Rattle.sheet.specs.Statements.{shortestPage, clean-state, One-statement, refusedLine, refusedNext};
 ghost use Rattle.sheet.specs.Stepping.{state, checked, stepStopped, Stepped};
 use crate::command::Fault;
 use crate::last::LastChain;
@@ -23,7 +23,8 @@ use dividing::TABLE_TONNES;
 impl<'a> Statement<'a> {
     // A statement of the sheet, before its first line.
     pub fn new(sheet: &'a [u8]) -> Statement<'a>
-        ensures { λ r. ⌜ state r ≡ clean-state (now (sheet .entry)) ⌝ }
+        ensures clean { λ r. ⌜ state r ≡ clean-state (now (sheet .entry)) ⌝ }
+        ensures one { λ _. ⌜ One-statement (now (sheet .entry)) ⌝ }
     {
         Statement {
             sheet,
