@@ -3,15 +3,14 @@
 --   isListing              the test for the list at a floor
 use mathlib.Core.Bool.{Bool, true, false, not, cond, _&&_, _||_}
 use mathlib.Core.List.{List, [], _∷_}
-use mathlib.Core.Logic.{inl, inr, ⊎-elim}
+use mathlib.Core.Logic.{⊎-elim}
 use mathlib.Core.Path.{_≡_, refl, sym, subst, _∙_}
 use Prim.Native.Nat.{ℕ, zero, suc, _<_, _≤_}
 use native.Mathlib.Omega.{arith}
-use lib.Dec.{eqb, ltb}
 use lib.ListN.{length}
 use Rattle.std.proofs.shelf.Elements.{has-getD, has-append-right}
-use Rattle.std.proofs.shelf.Tests.{and-parts, or-cases, not-true, both-ways, cond-true, eqb-true, ltb-true}
-use Rattle.std.specs.shelf.Lists.{All, Has}
+use Rattle.std.proofs.shelf.Tests.{and-parts, or-cases, not-true, both-ways, cond-true}
+use Rattle.std.specs.shelf.Lists.{Has}
 use Rattle.book.specs.Tally.{Tally, at, WellFormed}
 use Rattle.book.specs.Totals.{any, leaves, Balanced}
 use Rattle.flow.specs.Chains.{toOf, runs, Chain, longestChain}
@@ -23,6 +22,7 @@ use Rattle.flow.proofs.ChainFacts.{runs-step, chain-step, chain-short, leaves-
 use Rattle.flow.proofs.CheckedSplits.{every, every-all}
 use Rattle.flow.proofs.Infix.{sameList-is}
 use Rattle.flow.proofs.Listed.{isGreatest, greatest-decided, rest-listing}
+use Rattle.flow.proofs.Order.{isBefore, before-true}
 use Rattle.flow.proofs.Sums.{everyBelow, decides-every-below}
 
 -- a test passed by every number below one is passed by each
@@ -56,22 +56,6 @@ every-chain t p (n ∷ ns) h chain =
     (step .1)
     (omega (arith, chain-short t (n ∷ ns) chain))
 
-abbrev pub isBefore : List ℕ → List ℕ → Bool
-isBefore [] [] = false
-isBefore [] (n ∷ d) = true
-isBefore (m ∷ c) [] = false
-isBefore (m ∷ c) (n ∷ d) = ltb m n || (eqb m n && isBefore c d)
-
-before-checked : (c d : List ℕ) → isBefore c d ≡ true → Before c d
-before-checked [] [] h = both-ways false refl h
-before-checked [] (n ∷ d) h = tt
-before-checked (m ∷ c) [] h = both-ways false refl h
-before-checked (m ∷ c) (n ∷ d) h =
-    ⊎-elim
-    (λ less. inl (ltb-true m n less))
-    (λ same. let p = and-parts (eqb m n) (isBefore c d) same in inr (eqb-true m n (p .0), before-checked c d (p .1)))
-    (or-cases (ltb m n) (eqb m n && isBefore c d) h)
-
 abbrev pub isSorted : List (List ℕ) → Bool
 isSorted [] = true
 isSorted (c ∷ cs) = every (isBefore c) cs && isSorted cs
@@ -80,7 +64,7 @@ sorted-checked : (cs : List (List ℕ)) → isSorted cs ≡ true → Sorted cs
 sorted-checked [] h = tt
 sorted-checked (c ∷ cs) h =
     let p = and-parts (every (isBefore c) cs) (isSorted cs) h in
-    (every-all (isBefore c) (Before c) (before-checked c) cs (p .0), sorted-checked cs (p .1))
+    (every-all (isBefore c) (Before c) (before-true c) cs (p .0), sorted-checked cs (p .1))
 
 has-checked : (cs : List (List ℕ)) (d : List ℕ) → any (sameList d) cs ≡ true → Has cs d
 has-checked [] d h = absurd (both-ways false refl h)
