@@ -155,7 +155,7 @@ once-same p m n passes-m passes-n (k ∷ d) once has-m has-n =
     ]
 
 -- a list that ends with another, by its parts
-sameList-is : (c d : List ℕ) → sameList c d ≡ true → c ≡ d
+pub sameList-is : (c d : List ℕ) → sameList c d ≡ true → c ≡ d
 sameList-is [] [] h = refl
 sameList-is [] (n ∷ d) h = absurd (both-ways false refl h)
 sameList-is (m ∷ c) [] h = absurd (both-ways false refl h)

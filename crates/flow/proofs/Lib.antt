@@ -15,4 +15,7 @@ pub mod Certainty
 pub mod Order
 pub mod AllChains
 pub mod Listed
+pub mod CheckedSplits
+pub mod CheckedRows
+pub mod CheckedLists
 pub mod WorkedBooks

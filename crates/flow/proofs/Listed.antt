@@ -91,7 +91,7 @@ module _ (t : Tally) (w : ℕ) (given c : List ℕ) (cs : List (List ℕ)) (rest
         (has-cases c cs d (rest .every d greatest (before-transitive given c d after later)));
   }
 
-rest-listing : (t : Tally) (w : ℕ) (given : List ℕ) (cs : List (List ℕ)) → All (Before given) cs → Rest t w given cs → Listing t w given cs
+pub rest-listing : (t : Tally) (w : ℕ) (given : List ℕ) (cs : List (List ℕ)) → All (Before given) cs → Rest t w given cs → Listing t w given cs
 rest-listing t w given [] after rest = λ d greatest later. has-none d (rest .every d greatest later)
 rest-listing t w given (c ∷ cs) after rest =
     (rest-first t w given c cs rest (after .0), rest-listing t w c cs (rest .sorted .0) (rest-next t w given c cs rest (after .0)))

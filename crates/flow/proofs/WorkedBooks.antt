@@ -1,92 +1,73 @@
--- The worked books checked: a test of splits that computes, and what it shows. Assumes nothing.
---   every             each element of a list passes a test
---   isFull, isSplit   the tests for a full chain and for a split
-use mathlib.Core.Bool.{Bool, true, not, _&&_, _||_}
-use mathlib.Core.List.{List, [], _∷_}
-use mathlib.Core.Logic.{⊎-elim}
+-- The worked books checked: all that is said of them computes. Assumes nothing.
+use mathlib.Core.Bool.{Bool, true, _&&_}
+use mathlib.Core.List.{List, [], _∷_, map}
 use mathlib.Core.Path.{_≡_, refl}
-use Prim.Native.Nat.{ℕ, _<_}
+use Prim.Native.Nat.{ℕ, zero, suc, _<_}
 use native.Mathlib.Omega.{arith}
 use lib.Dec.{eqb, ltb}
-use lib.ListN.{length}
-use Rattle.std.proofs.shelf.Tests.{and-parts, or-cases, not-true, both-ways, ltb-true, eqb-true}
+use Rattle.std.proofs.shelf.Tests.{and-parts, both-ways, ltb-true, eqb-true}
 use Rattle.std.specs.shelf.Lists.{All}
-use Rattle.book.specs.Tally.{Tally, at, isLive, WellFormed}
-use Rattle.book.specs.Totals.{any, enters, leaves, amountOf, inTotal, outTotal}
-use Rattle.flow.specs.Chains.{isChain, start, finish, Full}
-use Rattle.flow.specs.Splits.{Row, Split, puts}
-use Rattle.flow.specs.Worked.{harbour, harbourRows, double, doubleRows, fork, forkRows, empty, struckHarbour, Stands, Worked-books-stand}
-use Rattle.flow.proofs.ChainFacts.{isOrigin, decides-origin, live-within}
+use Rattle.book.specs.Tally.{Tally, WellFormed}
+use Rattle.book.specs.Totals.{inTotal, outTotal, Balanced, Differs}
+use Rattle.flow.specs.Dividing.{amounts, Dividing}
+use Rattle.flow.specs.Excess.{figure}
+use Rattle.flow.specs.Worked.{RowsUnder, ListAt, Worked, harbourWorked, doubleWorked, forkWorked, emptyWorked, struckHarbour, HasExcess, HasList, Stands, Worked-books-stand}
+use Rattle.flow.proofs.CheckedLists.{isListing, listing-checked}
+use Rattle.flow.proofs.CheckedRows.{divides, divides-checked}
+use Rattle.flow.proofs.CheckedSplits.{every, every-all, isSplit, split-checked}
 use Rattle.flow.proofs.SplitTotals.{balanced-from-split}
-use Rattle.flow.proofs.Sums.{everyBelow, decides-every-below}
 
-abbrev every : {X : Type 0} → (X → Bool) → List X → Bool
-every p [] = true
-every p (x ∷ xs) = p x && every p xs
+abbrev dividesUnder : Tally → RowsUnder → Bool
+dividesUnder t d = divides (d .rule) t (amounts t) (d .rows)
 
-every-all : {X : Type 0} (p : X → Bool) (P : X → Type 0) → ((x : X) → p x ≡ true → P x) → (xs : List X) → every p xs ≡ true → All P xs
-every-all p P shows [] h = tt
-every-all p P shows (x ∷ xs) h = let b = and-parts (p x) (every p xs) h in (shows x (b .0), every-all p P shows xs (b .1))
+abbrev listsAt : Tally → ListAt → Bool
+listsAt t l = ltb 0 (l .floor) && (isListing t (l .floor) (map (λ r. r .chain) (l .list)) && every (λ r. eqb (figure t (r .chain)) (r .tonnes)) (l .list))
 
-abbrev isFull : Tally → List ℕ → Bool
-isFull t c =
-    isChain t c
-    && (isOrigin t (start t c)
-    && (any (enters (finish t c)) t && not (any (leaves (finish t c)) t)))
-
-abbrev isSplit : Tally → List Row → Bool
-isSplit t s =
-    every (λ r. isFull t (r .chain)) s
-    && (every (λ r. ltb 0 (r .tonnes)) s
-    && everyBelow (λ n. not (isLive (at t n)) || eqb (puts s (n ∷ [])) (amountOf (at t n))) (length t))
-
-full-checked : (t : Tally) (c : List ℕ) → isFull t c ≡ true → Full t c
-full-checked t c h =
-    let all = and-parts (isChain t c) _ h in
-    let ends = and-parts (isOrigin t (start t c)) _ (all .1) in
-    let last = and-parts (any (enters (finish t c)) t) _ (ends .1) in
+list-checked : (t : Tally) → WellFormed t → Balanced t → (l : ListAt) → listsAt t l ≡ true → HasList t l
+list-checked t well balanced l h =
+    let some = and-parts (ltb 0 (l .floor)) _ h in
+    let rest = and-parts (isListing t (l .floor) (map (λ r. r .chain) (l .list))) _ (some .1) in
     record {
-      chain = all .0;
-      origin = decides-origin t (start t c) .0 (ends .0);
-      ending = record { entered = last .0; unleft = not-true (any (leaves (finish t c)) t) (last .1) };
-    }
-
-pub split-checked : (t : Tally) (s : List Row) → isSplit t s ≡ true → Split t s
-split-checked t s h =
-    let both = and-parts (every (λ r. isFull t (r .chain)) s) _ h in
-    let rest = and-parts (every (λ r. ltb 0 (r .tonnes)) s) _ (both .1) in
-    let sums : ℕ → Bool = λ k. not (isLive (at t k)) || eqb (puts s (k ∷ [])) (amountOf (at t k)) in
-    record {
-      full = every-all (λ r. isFull t (r .chain)) (λ r. Full t (r .chain)) (λ r y. full-checked t (r .chain) y) s (both .0);
-      some = every-all (λ r. ltb 0 (r .tonnes)) (λ r. 0 < r .tonnes) (λ r y. ltb-true 0 (r .tonnes) y) s (rest .0);
-      sums = λ n live.
-          ⊎-elim
-          (λ struck. absurd (both-ways (isLive (at t n)) (not-true (isLive (at t n)) struck) live))
-          (λ same. eqb-true (puts s (n ∷ [])) (amountOf (at t n)) same)
-          (or-cases (not (isLive (at t n))) (eqb (puts s (n ∷ [])) (amountOf (at t n))) (decides-every-below sums (λ k. sums k ≡ true) (λ k. ((λ y. y), (λ y. y))) (length t) .0 (rest .1) n (live-within t n live)));
+      listing = listing-checked t (l .floor) well balanced (ltb-true 0 (l .floor) (some .0)) (map (λ r. r .chain) (l .list)) (rest .0);
+      figures = every-all (λ r. eqb (figure t (r .chain)) (r .tonnes)) (λ r. figure t (r .chain) ≡ r .tonnes) (λ r y. eqb-true (figure t (r .chain)) (r .tonnes) y) (l .list) (rest .1);
     }
 
 -- a split makes the book balanced
-stands : (t : Tally) (s : List Row) → WellFormed t → isSplit t s ≡ true → Stands t s
-stands t s well checked =
-    let split = split-checked t s checked in
-    record { well-formed = well; balanced = balanced-from-split t well s split; split = split }
+stands : (k : Worked) → WellFormed (k .book) → isSplit (k .book) (k .split) ≡ true → All (HasExcess (k .book)) (k .excesses) → every (dividesUnder (k .book)) (k .dividings) ≡ true → every (listsAt (k .book)) (k .lists) ≡ true → Stands k
+stands k well checked excesses divided listed =
+    let t : Tally = k .book in
+    let split = split-checked t (k .split) checked in
+    let balanced : Balanced t = balanced-from-split t well (k .split) split in
+    record {
+      well-formed = well;
+      balanced = balanced;
+      split = split;
+      excesses = excesses;
+      dividings = every-all (dividesUnder t) (λ d. Dividing (d .rule) t (d .rows)) (λ d y. divides-checked (d .rule) t (amounts t) (d .rows) y) (k .dividings) divided;
+      lists = every-all (listsAt t) (HasList t) (list-checked t well balanced) (k .lists) listed;
+    }
 
 differ : inTotal struckHarbour 2 ≡ outTotal struckHarbour 2 → ⊥
 differ same = omega arith
 
+differ-none-lower : (b : ℕ) → b < 2 → Differs struckHarbour b → ⊥
+differ-none-lower zero low differs = both-ways _ refl (differs .0)
+differ-none-lower (suc zero) low differs = both-ways _ refl (differs .0)
+differ-none-lower (suc (suc b)) low differs = omega arith
+
 pub worked-books-stand : Worked-books-stand
 worked-books-stand = record {
-  harbour-stands = stands harbour harbourRows (omega arith) refl;
-  double-stands = stands double doubleRows (omega arith) refl;
-  fork-stands = stands fork forkRows (omega arith) refl;
-  empty-stands = stands empty [] (omega arith) refl;
+  books = (
+    stands harbourWorked (omega arith) refl ((refl, refl), ((refl, refl), ((refl, refl), ((refl, refl), tt)))) refl refl,
+    (
+      stands doubleWorked (omega arith) refl ((refl, refl), ((refl, refl), ((refl, refl), ((refl, refl), tt)))) refl refl,
+      (stands forkWorked (omega arith) refl tt refl refl, (stands emptyWorked (omega arith) refl tt refl refl, tt)),
+    ),
+  );
   struck-well-formed = omega arith;
   struck-differs = (refl, refl, differ);
+  struck-lowest = differ-none-lower;
   struck-in = refl;
   struck-out = refl;
   struck-unbalanced = λ balanced. differ (balanced 2 refl refl);
-  excess-twenty = refl;
-  excess-ten = refl;
-  excess-below-none = refl;
 }

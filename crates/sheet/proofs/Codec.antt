@@ -186,7 +186,6 @@ back p (note text) fit rest =
     at-whole p noteLength (text ++ rest) _ (omega (arith, length-append text rest, long))
     ∙ (ap (λ z. cond (ltb (clean z) noteLength) (refused 15 ((p + 1 + clean z) ∷ [])) (read (note z) (p + 17))) cut
     ∙ (cond-false _ _ _ (le-ltb (clean text) noteLength (omega (arith, long, clean-all text (fit .1)))) ∙ ap (λ k. read (note text) k) (omega (arith, long))))
-
 back p (list floor) fit rest = at-whole p 4 (big4 floor ++ rest) _ (omega arith) ∙ ap (λ n. read (list n) (p + 5)) (value4-big4 floor fit)
 back p (divide rule) fit rest = at-whole p 1 (rule ∷ rest) _ (omega arith) ∙ cond-false _ _ _ (le-ltb lastRule rule fit)
 

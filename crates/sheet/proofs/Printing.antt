@@ -19,9 +19,10 @@ use Rattle.sheet.proofs.Laid.{over-from-put}
 
 pub printed : (a b : State) (before after l : List ℕ) (n : ℕ) → length after ≡ length before → Put before 0 l after n → Prints a l b → (n ≤ length before) × ((k : List ℕ) × (n ≡ length k) × Printed a b before after k)
 printed a b before after l n kept put prints =
-    let on-page = over-from-put before l after n put in
-    ( omega (arith, on-page .1, kept, ap length (on-page .0) ∙ length-append l (drop (length l) before))
-    , (l, on-page .1, record { page = on-page .0; prints = prints; law = λ ls rest. (b, prints, rest) }) )
+    let on-page = over-from-put before l after n put in (
+      omega (arith, on-page .1, kept, ap length (on-page .0) ∙ length-append l (drop (length l) before)),
+      (l, on-page .1, record { page = on-page .0; prints = prints; law = λ ls rest. (b, prints, rest) }),
+    )
 
 pub prints-command : (a b : State) (l : List ℕ) (m : Meaning) (q : ℕ) → a .ended ≡ false → read m q ≡ reading (a .sheet-bytes) (a .place) → Obeyed a l b q m → Prints a l b
 prints-command a b l m q running is obeyed = record { running = running; answered = subst (Answered a l b) is obeyed }

@@ -79,7 +79,7 @@ module _ (t : List ℕ) (rows : List Row) (short : Short rows) (fits : rowStride
       let enough : length (rowOf rows i .chain) ≤ length rest = omega (arith, long, row-short, length-drop (rowStride * i + 1) table) in
       ap (λ n. take n rest) row-length
       ∙ same-lists (take (length (rowOf rows i .chain)) rest) (rowOf rows i .chain) (length-take-le (length (rowOf rows i .chain)) rest enough)
-        (λ j d h.
-        let within′ : j < length (rowOf rows i .chain) = omega (arith, length-take-le (length (rowOf rows i .chain)) rest enough) in
-        getD-take (length (rowOf rows i .chain)) rest j d within′
-        ∙ (getD-drop (rowStride * i + 1) table j d ∙ (ap (λ m. getD table m d) (omega arith) ∙ at-row (suc j) d (omega arith))))
+      (λ j d h.
+      let within′ : j < length (rowOf rows i .chain) = omega (arith, length-take-le (length (rowOf rows i .chain)) rest enough) in
+      getD-take (length (rowOf rows i .chain)) rest j d within′
+      ∙ (getD-drop (rowStride * i + 1) table j d ∙ (ap (λ m. getD table m d) (omega arith) ∙ at-row (suc j) d (omega arith))))

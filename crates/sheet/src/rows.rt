@@ -17,15 +17,20 @@ ghost use Rattle.std.specs.shelf.Lists.{All};
 use crate::text::say_chain;
 use book::Book;
 use chains::Fault as ChainFault;
-use dividing::divide;
 use dividing::Lowest;
 use dividing::LowestRule;
+use dividing::ROW_STRIDE;
 use dividing::Widest;
 use dividing::WidestRule;
-use dividing::ROW_STRIDE;
+use dividing::divide;
 
 // Divides under rule 0 or rule 1.
-pub fn divide_by(book: &Book, rule: u8, rows: &mut [u16], tonnes: &mut [u32]) -> Result<usize, ChainFault>
+pub fn divide_by(
+    book: &Book,
+    rule: u8,
+    rows: &mut [u16],
+    tonnes: &mut [u32],
+) -> Result<usize, ChainFault>
     ensures stop { λ r. ⌜ ((o : Outcome) → checked r o ≡ divideStopped (lines (now (book .entry))) (length (now (rows .entry))) (length (now (tonnes .entry))) o) ⌝ }
     ensures filled { λ r. ⌜ Answered (ruleOf rule) (lines (now (book .entry))) (now (rows .entry)) (now (tonnes .entry)) r (now (rows .exit)) (now (tonnes .exit)) ⌝ }
 {
@@ -48,5 +53,10 @@ pub fn say_row(page: &mut [u8], rows: &[u16], tonnes: &[u32], row: usize) -> usi
     let start = ROW_STRIDE * row;
     let lines = rows[start] as usize;
     let first = start + 1;
-    say_chain(page, b"take ", tonnes[row] as u64, &rows[first..first + lines])
+    say_chain(
+        page,
+        b"take ",
+        tonnes[row] as u64,
+        &rows[first..first + lines],
+    )
 }

@@ -13,8 +13,8 @@ use crate::last::LastChain;
 use book::Book;
 use chains::Fault as ChainFault;
 use chains::LONGEST_CHAIN;
-use listing::next;
 use listing::Next;
+use listing::next;
 
 impl LastChain {
     pub fn new() -> LastChain

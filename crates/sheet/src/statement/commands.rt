@@ -34,7 +34,14 @@ impl<'a> Statement<'a> {
     }
 
     // Prints the next line of a command, and goes on behind it after its last.
-    pub fn obey(&mut self, command: Command<'_>, after: usize, page: &mut [u8], rows: &mut [u16], tonnes: &mut [u32]) -> usize
+    pub fn obey(
+        &mut self,
+        command: Command<'_>,
+        after: usize,
+        page: &mut [u8],
+        rows: &mut [u16],
+        tonnes: &mut [u32],
+    ) -> usize
         requires fit { ⌜ Fit (meaning command) ⌝ }
         requires running { ⌜ now self .ended ≡ false ⌝ }
         requires room { ⌜ shortestPage ≤ length (now page) ⌝ }
@@ -98,7 +105,14 @@ impl<'a> Statement<'a> {
     }
 
     // The next row of a dividing, the count of its rows, or its refusal; the tables are filled first.
-    fn obey_divide(&mut self, rule: u8, after: usize, page: &mut [u8], rows: &mut [u16], tonnes: &mut [u32]) -> usize
+    fn obey_divide(
+        &mut self,
+        rule: u8,
+        after: usize,
+        page: &mut [u8],
+        rows: &mut [u16],
+        tonnes: &mut [u32],
+    ) -> usize
         requires running { ⌜ now self .ended ≡ false ⌝ }
         requires room { ⌜ shortestPage ≤ length (now page) ⌝ }
         requires tables { ⌜ tableEntries ≤ length (now rows) ⌝ ∗ ⌜ tableTonnes ≤ length (now tonnes) ⌝ }

@@ -7,8 +7,8 @@ ghost use Rattle.sheet.specs.Running.{Added, Ran};
 ghost use Rattle.sheet.specs.Statements.{shortestPage};
 ghost use Rattle.sheet.specs.Stepping.{state};
 ghost use Rattle.std.specs.Of.Vec.{vec-items};
-use crate::statement::Statement;
 use crate::SHORTEST_PAGE;
+use crate::statement::Statement;
 use dividing::TABLE_ENTRIES;
 use dividing::TABLE_TONNES;
 use std::alloc::AllocError;
@@ -30,7 +30,13 @@ impl<'a> Statement<'a> {
     }
 
     // One step; room for its line is found first, so that no line is lost for want of memory.
-    fn add_line(&mut self, page: &mut [u8], rows: &mut [u16], tonnes: &mut [u32], out: &mut Vec<u8>) -> Result<bool, AllocError>
+    fn add_line(
+        &mut self,
+        page: &mut [u8],
+        rows: &mut [u16],
+        tonnes: &mut [u32],
+        out: &mut Vec<u8>,
+    ) -> Result<bool, AllocError>
         requires page { ⌜ length (now page) ≡ shortestPage ⌝ }
         requires tables { ⌜ tableEntries ≤ length (now rows) ⌝ ∗ ⌜ tableTonnes ≤ length (now tonnes) ⌝ }
         ensures { λ r. ⌜ Added (state (now (self .entry))) (vec-items (now (out .entry))) r (state (now (self .exit))) (vec-items (now (out .exit))) ⌝ }

@@ -9,13 +9,13 @@ ghost use Rattle.sheet.specs.Page.{Put};
 ghost use Rattle.sheet.specs.Reading.{number, carries};
 ghost use Rattle.sheet.specs.Statements.{shortestPage, clean-state, One-statement, refusedLine, refusedNext};
 ghost use Rattle.sheet.specs.Stepping.{state, checked, stepStopped, Stepped};
+use crate::LONGEST_COMMAND;
+use crate::SHORTEST_PAGE;
 use crate::command::Fault;
 use crate::last::LastChain;
 use crate::reading::read;
 use crate::statement::Statement;
 use crate::text::say_sheet_refusal;
-use crate::LONGEST_COMMAND;
-use crate::SHORTEST_PAGE;
 use book::Book;
 use dividing::TABLE_ENTRIES;
 use dividing::TABLE_TONNES;
@@ -38,7 +38,12 @@ impl<'a> Statement<'a> {
 
     // Writes the next line of the statement at the start of the page, and answers its length; nothing after the end.
     // A step that prints a row or the count of a dividing first fills the tables as divide does.
-    pub fn step(&mut self, page: &mut [u8], rows: &mut [u16], tonnes: &mut [u32]) -> Result<Option<usize>, Fault>
+    pub fn step(
+        &mut self,
+        page: &mut [u8],
+        rows: &mut [u16],
+        tonnes: &mut [u32],
+    ) -> Result<Option<usize>, Fault>
         ensures stop { λ r. ⌜ ((o : Outcome) → checked r o ≡ stepStopped (length (now (page .entry))) (length (now (rows .entry))) (length (now (tonnes .entry))) o) ⌝ }
         ensures stepped { λ r. ⌜ Stepped (state (now (self .entry))) (now (page .entry)) (now (rows .entry)) (now (tonnes .entry)) r (state (now (self .exit))) (now (page .exit)) (now (rows .exit)) (now (tonnes .exit)) ⌝ }
     {

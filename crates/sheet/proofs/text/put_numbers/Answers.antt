@@ -27,12 +27,13 @@ loop-i-again c =
     let ns = c .args .numbers .now in
     let i = c .loop-i .i in
     let more : numbersText (take i ns) ++ (32 ∷ decimal (getD ns i 0)) ≡ numbersText (take (i + 1) ns) =
-        joined-more (λ n. 32 ∷ decimal n) [] (take i ns) (getD ns i 0) ∙ ap numbersText (sym (take-more ns i 0 (c .loop-i-test .taken))) in
+    joined-more (λ n. 32 ∷ decimal n) [] (take i ns) (getD ns i 0) ∙ ap numbersText (sym (take-more ns i 0 (c .loop-i-test .taken))) in
     let so = c .loop-i .inv in
-    let one = c .put-number-end .ensures in
-    ( subst (λ bs. Put (c .args .page .now) (c .args .at) bs (c .put-number-end .last .page) (c .put-number-end .result)) more
-      (put-then _ _ _ _ _ _ _ _ (omega (arith, so .0 .place, so .1)) (so .0) (one .put))
-    , omega (arith, one .short, so .1) )
+    let one = c .put-number-end .ensures in (
+      subst (λ bs. Put (c .args .page .now) (c .args .at) bs (c .put-number-end .last .page) (c .put-number-end .result)) more
+          (put-then _ _ _ _ _ _ _ _ (omega (arith, so .0 .place, so .1)) (so .0) (one .put)),
+      omega (arith, one .short, so .1),
+    )
 
 pub returns : need.returns
 returns c =

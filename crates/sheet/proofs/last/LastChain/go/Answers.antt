@@ -29,7 +29,7 @@ returns-in-Ok-Found c =
     let t = lines (c .args .book .now) in
     let told : First t (c .args .floor) (chainOf (c .args .self .now)) (c .in-Ok-Found .lines) (c .in-Ok-Found .figure) (c .args .self .now .row) (c .next .last .row) = search needs in
     let held : take (c .in-Ok-Found .lines) (c .next .last .row) ≡ told .listed =
-        ap (take (c .in-Ok-Found .lines)) (told .placed) ∙ take-at (told .listed) (drop (length (told .listed)) (c .args .self .now .row)) (c .in-Ok-Found .lines) (sym (told .long)) in
+    ap (take (c .in-Ok-Found .lines)) (told .placed) ∙ take-at (told .listed) (drop (length (told .listed)) (c .args .self .now .row)) (c .in-Ok-Found .lines) (sym (told .long)) in
     let pass : (o : Outcome) → o ≡ nextStopped t (c .args .floor) (length (c .args .self .now .row)) (c .args .self .now .lines) o = search needs in
     record {
       stop = λ o. pass o ∙ ap (cond (eqb (c .args .floor) 0) (refuses chain 11 [])) (cond-false _ _ _ (le-ltb (length (c .args .self .now .row)) 63 (omega (arith, c .args .self .now .whole))) ∙ cond-false _ _ _ (le-ltb 63 (c .args .self .now .lines) (c .args .self .now .within)));

@@ -20,7 +20,7 @@ returns-in-Ok-Some c =
     let told : Stepped (state (c .args .self .now)) (c .args .page .now) (c .args .rows .now) (c .args .tonnes .now) (Ok (Some (c .in-Ok-Some .length))) (state (c .step .last .self)) (c .step .last .page) (c .step .last .rows) (c .step .last .tonnes) = search needs in
     let room = c .in-Continue-reserve .ensures tt .cases in
     let fine : isOk (c .extend-from-slice .result) ≡ true =
-        c .extend-from-slice .ensures .succeeds (omega (arith, room, told .0, c .pre .page, length-take (c .in-Ok-Some .length - 0) (c .step .last .page))) in
+    c .extend-from-slice .ensures .succeeds (omega (arith, room, told .0, c .pre .page, length-take (c .in-Ok-Some .length - 0) (c .step .last .page))) in
     line-added _ _ _ _ (told .1 .0) _ (c .in-Ok-Some .length - 0) _ _ (told .1 .1) (told .1 .2) (omega arith)
     (c .extend-from-slice .ensures .items ∙ (cond-true _ _ _ fine ∙ ap (λ z. z ++ take (c .in-Ok-Some .length - 0) (c .step .last .page)) (c .in-Continue-reserve .ensures tt .items)))
 

@@ -59,7 +59,7 @@ returns-then-row-count c =
     let chain = row-in (ruleOf (c .args .rule)) t formed _ _ _ _ _ filled entries i within in
     let weight = row-weight (ruleOf (c .args .rule)) t formed _ _ _ _ _ filled entries i within in
     let passes : answers [] ≡ stopped (balanceStops t) (answers []) =
-        c .in-Ok .ensures tt .stop (answers []) ∙ cond-false _ _ _ (or-from _ _ (le-ltb (length (c .args .rows .now)) 16384 entries) (le-ltb (length (c .args .tonnes .now)) 256 (c .pre .tables .1))) in
+    c .in-Ok .ensures tt .stop (answers []) ∙ cond-false _ _ _ (or-from _ _ (le-ltb (length (c .args .rows .now)) 16384 entries) (le-ltb (length (c .args .tonnes .now)) 256 (c .pre .tables .1))) in
     record {
       line = record {
         text = textLine (chainText (codes "take ") (getD (c .divide-by .last .tonnes) i 0) (rowIn (c .divide-by .last .rows) i));
