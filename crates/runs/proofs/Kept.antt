@@ -30,7 +30,7 @@ use Rattle.flow.proofs.Listed.{list-is-complete}
 use Rattle.flow.proofs.RuleLaws.{law-avoiding}
 use Rattle.flow.proofs.SplitTotals.{balanced-from-split}
 use Rattle.flow.proofs.Sums.{first-such}
-use Rattle.runs.specs.Promise.{Some-split, Refused, Asks, Questions, Told, Countered, List-agreed, Kept-promise}
+use Rattle.runs.specs.Promise.{Refused, Asks, Questions, Told, Countered, List-agreed, Kept-promise}
 
 -- a book is balanced, or some account is the lowest that differs
 balance-decided : (t : Tally) → All Sound t → Balanced t ⊎ ((a : ℕ) × Differs t a × ((b : ℕ) → b < a → Differs t b → ⊥))

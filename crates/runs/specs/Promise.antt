@@ -1,7 +1,8 @@
 -- What is promised of the tally of every list of calls. Assumes nothing.
 --   Some-split     the tally has a split
---   Asks           a question by its stops: where none before the last is met, it is refused exactly when the tally has no split,
---                  and then with the lowest account that differs and both of its totals
+--   Refused        refused whatever the outcome would be: with the lowest account that differs and both of its totals
+--   Asks           a question by its stops: where none before the last is met, it is refused exactly when the tally has no split
+--   chainBefore    the stops of a chain before the balance
 --   Questions      every question about a book is such a question
 --   Counter        a split against a chain: the dividing that avoids it puts just the certain figure on it
 --   Told           what certain answers: held with the certain figure, or loose where that is 0
@@ -33,7 +34,6 @@ use Rattle.listing.specs.Picks.{requestStops}
 abbrev pub Some-split : Tally → Type 0
 Some-split t = (s : List Row) × Split t s
 
--- the refusal of every question about a book without a split: the lowest account that differs, and both totals
 pub record Refused (t : Tally) (all : Outcome → Outcome) : Type 0 where
   pub account : ℕ
   pub differs : Differs t account
