@@ -76,19 +76,18 @@ module _ (t : Tally) (sound : All Sound t) (ins outs : List ℕ) (in-is : (a : �
       )
 
 -- the computed test tells whether an account differs
-differs-true : (t : Tally) (a : ℕ) → Differs t a → differs t a ≡ true
+pub differs-true : (t : Tally) (a : ℕ) → Differs t a → differs t a ≡ true
 differs-true t a (entered, left, apart) =
     and-from _ _ (and-from _ _ entered left) (not-from-false (eqb (inTotal t a) (outTotal t a)) (ne-eqb (inTotal t a) (outTotal t a) apart))
 
-differs-false : (t : Tally) (a : ℕ) → (Differs t a → ⊥) → differs t a ≡ false
-differs-false t a same =
-    ⊎-elim
-    (λ d.
+pub true-differs : (t : Tally) (a : ℕ) → differs t a ≡ true → Differs t a
+true-differs t a d =
     let outer = and-parts (any (enters a) t && any (leaves a) t) (not (eqb (inTotal t a) (outTotal t a))) d in
     let inner = and-parts (any (enters a) t) (any (leaves a) t) (outer .0) in
-    absurd (same (inner .0, inner .1, eqb-false (inTotal t a) (outTotal t a) (not-true (eqb (inTotal t a) (outTotal t a)) (outer .1)))))
-    (λ e. e)
-    (cases-bool (differs t a))
+    (inner .0, inner .1, eqb-false (inTotal t a) (outTotal t a) (not-true (eqb (inTotal t a) (outTotal t a)) (outer .1)))
+
+differs-false : (t : Tally) (a : ℕ) → (Differs t a → ⊥) → differs t a ≡ false
+differs-false t a same = ⊎-elim (λ d. absurd (same (true-differs t a d))) (λ e. e) (cases-bool (differs t a))
 
 pub balances-stop : (t : Tally) → All Sound t → (r : Result Unit Fault) → Balances t r → (o : Outcome) → checked r o ≡ stopped (balanceStops t) o
 unfolding balanceStops

@@ -63,7 +63,7 @@ pub decides-every-below : (p : ℕ → Bool) (P : ℕ → Type 0) → ((n : ℕ)
 decides-every-below p P each n = decides-below-and p P (everyBelow p) each refl (λ _. refl) n
 
 -- the lowest number that passes a test, below a number that does
-first-such : (p : ℕ → Bool) (n : ℕ) → ((b : ℕ) → b < n → p b ≡ false) ⊎ ((m : ℕ) × (p m ≡ true) × ((b : ℕ) → b < m → p b ≡ false))
+pub first-such : (p : ℕ → Bool) (n : ℕ) → ((b : ℕ) → b < n → p b ≡ false) ⊎ ((m : ℕ) × (p m ≡ true) × ((b : ℕ) → b < m → p b ≡ false))
 first-such p zero = inl (λ b h. absurd (omega arith))
 first-such p (suc n) =
     ⊎-elim
