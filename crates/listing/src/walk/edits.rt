@@ -1,10 +1,11 @@
 // Walks made from a list and from one another.
+ghost use mathlib.Core.Bool.{cond};
 ghost use mathlib.Core.List.{[], _∷_, _++_};
 ghost use mathlib.Core.Path.{_≡_};
-ghost use Prim.Native.Nat.{_<_, _≤_};
-ghost use lib.ListN.{length, take};
+ghost use Prim.Native.Nat.{_+_, _<_, _≤_};
+ghost use lib.Dec.{ltb};
+ghost use lib.ListN.{length, take, getD};
 ghost use Rattle.flow.specs.Chains.{longestChain};
-ghost use Rattle.listing.specs.After.{lowestAfter};
 ghost use Rattle.listing.specs.Walks.{path};
 use crate::walk::Walk;
 use chains::LONGEST_CHAIN;
@@ -35,7 +36,7 @@ impl Walk {
 
     // The lowest number that makes a later list, put behind the first lines.
     pub fn lowest_after(&self, kept: usize) -> usize
-        ensures { λ r. ⌜ r ≡ lowestAfter (path (now (self .entry))) kept ⌝ }
+        ensures { λ r. ⌜ r ≡ cond (ltb kept (now (self .entry) .count)) (getD (now (self .entry) .lines) kept 0 + 1) 0 ⌝ }
     {
         if kept < self.count {
             self.lines[kept] as usize + 1
