@@ -45,7 +45,10 @@ impl Tables {
     }
 
     fn print_rows(&self, rt: &LibcRuntime, count: usize) -> Result<(), AnyError> {
-        for (row, tonnes) in self.rows.chunks(ROW_STRIDE).zip(self.tonnes.iter()).take(count) {
+        for (row, tonnes) in self.rows
+            .chunks(ROW_STRIDE)
+            .zip(self.tonnes.iter())
+            .take(count) {
             print!(rt, "; {tonnes} on")?;
             for line in row.iter().take(used_entries(row)).skip(1) {
                 print!(rt, " {line}")?;
