@@ -11,6 +11,7 @@ mod reading;
 mod running;
 mod shown;
 mod stepping;
+mod tables;
 mod words;
 mod writing;
 

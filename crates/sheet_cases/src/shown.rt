@@ -34,6 +34,8 @@ pub impl fmt::Display for Named<'_> as NamedDisplay {
                 let bytes = Hex(text);
                 write!(f, "note{bytes}")
             }
+            Command::List { floor } => write!(f, "list {floor}"),
+            Command::Divide { rule } => write!(f, "divide {rule}"),
         }
     }
 }
@@ -50,7 +52,9 @@ pub impl fmt::Display for Refusal as RefusalDisplay {
             Fault::UnknownCommand(place) => write!(f, "refused {number} {place}"),
             Fault::CutOff(place) => write!(f, "refused {number} {place}"),
             Fault::NoteByte(place) => write!(f, "refused {number} {place}"),
+            Fault::RuleByte(place) => write!(f, "refused {number} {place}"),
             Fault::TooShort => write!(f, "refused {number}"),
+            Fault::TablesTooSmall => write!(f, "refused {number}"),
         }
     }
 }

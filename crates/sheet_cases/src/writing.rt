@@ -45,6 +45,12 @@ fn parse_command(
             line: next_number(words)?,
         }),
         "clear" => Ok(Command::Clear),
+        "list" => Ok(Command::List {
+            floor: next_number(words)?,
+        }),
+        "divide" => Ok(Command::Divide {
+            rule: next_number(words)?,
+        }),
         _ => Err("no such command".into()),
     }
 }
