@@ -175,9 +175,9 @@ Rest a (l ∷ ls) = (b : State) × Prints a l b × Rest b ls
 abbrev pub clean-state : List ℕ → State
 clean-state s = record { sheet-bytes = s; place = 0; tally = []; ended = false; count = 0; last = [] }
 
--- a sheet has at most one statement
-abbrev pub One-statement : List ℕ → Type 0
-One-statement s = (ls ks : List (List ℕ)) → Rest (clean-state s) ls → Rest (clean-state s) ks → ls ≡ ks
-
 abbrev pub Statement-of : List ℕ → List (List ℕ) → Type 0
 Statement-of s ls = Rest (clean-state s) ls
+
+-- a sheet has no two statements
+abbrev pub One-statement : List ℕ → Type 0
+One-statement s = (ls ks : List (List ℕ)) → Statement-of s ls → Statement-of s ks → ls ≡ ks

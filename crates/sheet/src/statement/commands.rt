@@ -24,7 +24,7 @@ use crate::text::say_text;
 
 impl<'a> Statement<'a> {
     // Goes on behind a command.
-    pub fn go_on(&mut self, after: usize)
+    pub(crate) fn go_on(&mut self, after: usize)
         requires { ⌜ now self .ended ≡ false ⌝ }
         ensures { λ _. ⌜ state (now (self .exit)) ≡ goes (state (now (self .entry))) after (lines (now (self .entry) .book)) ⌝ }
     {
@@ -34,7 +34,7 @@ impl<'a> Statement<'a> {
     }
 
     // Prints the next line of a command, and goes on behind it after its last.
-    pub fn obey(
+    pub(crate) fn obey(
         &mut self,
         command: Command<'_>,
         after: usize,
