@@ -1,4 +1,6 @@
-// A day's book of lines between accounts: posted, amended, struck and cleared, and asked for its totals and its balance.
+//! A day's book of lines between accounts: posted, amended, struck and cleared, and asked for its totals and its balance.
+#![tactic(auto)]
+
 mod checks;
 mod entries;
 mod run;

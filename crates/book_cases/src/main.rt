@@ -1,4 +1,6 @@
-// Puts the cases of cases.txt to one book and prints what each answers; then does the same for replays.
+//! Puts the cases of cases.txt to one book and prints what each answers; then does the same for replays.
+#![tactic(auto)]
+
 use book::Book;
 use cases::Case;
 use rerun::print_replay;

@@ -1,4 +1,6 @@
-// Questions about the chains of a book.
+//! Questions about the chains of a book.
+#![tactic(auto)]
+
 mod certainty;
 mod checks;
 mod faults;

@@ -1,4 +1,6 @@
-// Puts the cases of cases.txt to one book and prints what each answers.
+//! Puts the cases of cases.txt to one book and prints what each answers.
+#![tactic(auto)]
+
 use book::Book;
 use cases::answer_case;
 use std::fs;

@@ -1,4 +1,6 @@
-// A dispute over chains of the harbour book, settled on one page.
+//! A dispute over chains of the harbour book, settled on one page.
+#![tactic(auto)]
+
 use anyhow::anyhow;
 use book::{Answer, Call, Entry};
 use runs::replay_log;

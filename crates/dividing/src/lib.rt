@@ -1,4 +1,6 @@
-// Dividing a book under any lawful rule.
+//! Dividing a book under any lawful rule.
+#![tactic(auto)]
+
 mod avoiding;
 mod division;
 mod left;

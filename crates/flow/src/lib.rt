@@ -1,4 +1,6 @@
-// What every split of a book agrees on: the theorems that the product stands on, each on the contract of a function.
+//! What every split of a book agrees on: the theorems that the product stands on, each on the contract of a function.
+#![tactic(auto)]
+
 mod agreement;
 mod listing;
 mod worked;

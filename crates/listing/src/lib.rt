@@ -1,4 +1,6 @@
-// The list of a book's greatest certain chains.
+//! The list of a book's greatest certain chains.
+#![tactic(auto)]
+
 mod finding;
 mod greatest;
 mod nexts;

@@ -1,4 +1,6 @@
-// Puts the cases of each file to a book of its own and prints what each answers.
+//! Puts the cases of each file to a book of its own and prints what each answers.
+#![tactic(auto)]
+
 use book::Book;
 use cases::print_case;
 use std::fs;

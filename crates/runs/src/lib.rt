@@ -1,4 +1,6 @@
-// Whole runs of calls, with all that is promised of the book that they leave.
+//! Whole runs of calls, with all that is promised of the book that they leave.
+#![tactic(auto)]
+
 ghost use Rattle.std.specs.Prelude.{[], IfOk};
 ghost use Rattle.book.specs.Logs.{TalliedLog, calls_of};
 ghost use Rattle.book.specs.Runs.{Tallied};

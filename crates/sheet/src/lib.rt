@@ -1,4 +1,6 @@
-// Sheets of byte commands, read and written back exactly, and the statement of a sheet.
+//! Sheets of byte commands, read and written back exactly, and the statement of a sheet.
+#![tactic(auto)]
+
 mod command;
 mod last;
 mod obeying;

@@ -1,4 +1,6 @@
-// Puts the cases of cases.txt to the calls of the sheet layer, and prints what each answers.
+//! Puts the cases of cases.txt to the calls of the sheet layer, and prints what each answers.
+#![tactic(auto)]
+
 use anyhow::anyhow;
 use reading::{print_long_read, print_read};
 use running::print_runs;

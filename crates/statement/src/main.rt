@@ -1,4 +1,6 @@
-// Reads a sheet on standard input, and writes its statement on standard output.
+//! Reads a sheet on standard input, and writes its statement on standard output.
+#![tactic(auto)]
+
 use sheet::{LONGEST_SHEET, Statement};
 use std::io;
 use std::io::{Read, Write};

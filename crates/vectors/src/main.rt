@@ -1,4 +1,6 @@
-// Prints the statement of every sheet that names.txt lists.
+//! Prints the statement of every sheet that names.txt lists.
+#![tactic(auto)]
+
 use sheet::Statement;
 use std::alloc::{AllocError, Global};
 use std::io::Write;
