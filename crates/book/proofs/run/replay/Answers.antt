@@ -12,7 +12,7 @@ loop-call-init c = half_none _ _ _ c.new-book.ensures (ap (map told) c.new-answe
 
 pub loop-call-preserved : goal.loop-call-preserved
 loop-call-preserved c =
-    let grown = ap (map told) c.in-ok-push.ensures.items ∙ map_push told (vec_items c.loop-call.answers) c.make-answer.result in
+    let grown = ap (map told) c.in_ok-push.ensures.items ∙ map_push told (vec_items c.loop-call.answers) c.make-answer.result in
     subst (λ os. Half c.args.calls.now (c.loop-call.call-index + 1) (lines c.make-answer.new.self) os) (sym grown)
     (half_more _ _ _ _ _ _ _ c.loop-call-test.true c.loop-call.invariant c.make-answer.ensures.answer c.make-answer.ensures.lines)
 

@@ -1,5 +1,5 @@
 use Rattle.std.proofs.Common.{length}
 use Rattle.chains.proofs.certainty.+excess_of.Given as goal
 
-abbrev pub decreases-excess-of : goal.decreases-excess-of
-decreases-excess-of l = length l.chain.now
+abbrev pub decreases-excess_of : goal.decreases-excess_of
+decreases-excess_of l = length l.chain.now

@@ -8,11 +8,11 @@ use Rattle.chains.proofs.Stops.{through}
 use Rattle.chains.specs.Certainty.{by_excess}
 use Rattle.chains.proofs.certainty.certain.Goals as goal
 
-pub returns-in-err-check-chain : goal.returns-in-err-check-chain
-returns-in-err-check-chain c =
+pub returns-in_err-check_chain : goal.returns-in_err-check_chain
+returns-in_err-check_chain c =
     let p = err_from_is_err_and c.from-residual.result c.from-residual.ensures.1 in
     record {
-      stop = λ o. through c.from-residual.result p.0 _ _ o p.1 p.2 (c.in-err-check-chain.ensures.stop o);
+      stop = λ o. through c.from-residual.result p.0 _ _ o p.1 p.2 (c.in_err-check_chain.ensures.stop o);
       answer = IfOk-from_err c.from-residual.result _ c.from-residual.ensures.0;
       agreed = IfOk-from_err c.from-residual.result _ c.from-residual.ensures.0;
     }
@@ -21,11 +21,11 @@ pub returns : goal.returns
 returns c =
     let t = lines c.args.book.now in
     let chain = c.args.chain.now in
-    let passed = c.in-ok-check-chain.ensures.passed in
+    let passed = c.in_ok-check_chain.ensures.passed in
     let least = figure_is_least t chain passed.2 passed.1 passed.0 in
-    let same : to_z w64 (of_z w64 c.excess-of.result) ≡ excess t chain = omega (arith, ints, c.excess-of.ensures.value) in
+    let same : to_z w64 (of_z w64 c.excess_of.result) ≡ excess t chain = omega (arith, ints, c.excess_of.ensures.value) in
     record {
-      stop = c.in-ok-check-chain.ensures.stop;
+      stop = c.in_ok-check_chain.ensures.stop;
       answer = c.judge.ensures ∙ ap by_excess same;
       agreed = record { every = least.0; some = least.1 };
     }

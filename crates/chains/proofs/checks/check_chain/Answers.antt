@@ -10,35 +10,35 @@ use Rattle.chains.proofs.Stops.{through}
 use Rattle.chains.specs.Stops.{lines_stops}
 use Rattle.chains.proofs.checks.check_chain.Goals as goal
 
-pub returns-in-err-check-length : goal.returns-in-err-check-length
-returns-in-err-check-length c =
+pub returns-in_err-check_length : goal.returns-in_err-check_length
+returns-in_err-check_length c =
     let t = lines c.args.book.now in
     let p = err_from_is_err_and c.from-residual.result c.from-residual.ensures.1 in
     record {
-      stop = λ o. through c.from-residual.result p.0 _ _ o p.1 p.2 (c.in-err-check-length.ensures.stop (stopped (lines_stops t 0 None c.args.chain.now) (stopped (balance_stops t) o)));
+      stop = λ o. through c.from-residual.result p.0 _ _ o p.1 p.2 (c.in_err-check_length.ensures.stop (stopped (lines_stops t 0 None c.args.chain.now) (stopped (balance_stops t) o)));
       passed = IfOk-from_err c.from-residual.result _ c.from-residual.ensures.0;
     }
 
-pub returns-in-err-check-lines : goal.returns-in-err-check-lines
-returns-in-err-check-lines c =
+pub returns-in_err-check_lines : goal.returns-in_err-check_lines
+returns-in_err-check_lines c =
     let t = lines c.args.book.now in
-    let p = err_from_is_err_and c.from-residual-in-err-check-lines.result c.from-residual-in-err-check-lines.ensures.1 in
+    let p = err_from_is_err_and c.from-residual-in_err-check_lines.result c.from-residual-in_err-check_lines.ensures.1 in
     record {
       stop = λ o.
-          through c.from-residual-in-err-check-lines.result p.0 _ _ o p.1 p.2
-          (c.in-err-check-lines.ensures (stopped (balance_stops t) o) ∙ c.in-ok-check-length.ensures.stop (stopped (lines_stops t 0 None c.args.chain.now) (stopped (balance_stops t) o)));
-      passed = IfOk-from_err c.from-residual-in-err-check-lines.result _ c.from-residual-in-err-check-lines.ensures.0;
+          through c.from-residual-in_err-check_lines.result p.0 _ _ o p.1 p.2
+          (c.in_err-check_lines.ensures (stopped (balance_stops t) o) ∙ c.in_ok-check_length.ensures.stop (stopped (lines_stops t 0 None c.args.chain.now) (stopped (balance_stops t) o)));
+      passed = IfOk-from_err c.from-residual-in_err-check_lines.result _ c.from-residual-in_err-check_lines.ensures.0;
     }
 
 pub returns : goal.returns
 returns c =
     let t = lines c.args.book.now in
     let chain = c.args.chain.now in
-    let fits = c.in-ok-check-length.ensures.passed in
-    let linked = chain_passed t chain fits.0 fits.1 c.in-ok-check-lines.ensures in
+    let fits = c.in_ok-check_length.ensures.passed in
+    let linked = chain_passed t chain fits.0 fits.1 c.in_ok-check_lines.ensures in
     record {
       stop = λ o.
-          c.check-balance.ensures.stop o
-          ∙ (c.in-ok-check-lines.ensures (stopped (balance_stops t) o) ∙ c.in-ok-check-length.ensures.stop (stopped (lines_stops t 0 None chain) (stopped (balance_stops t) o)));
-      passed = IfOk-weaker c.check-balance.result (λ _. Balanced t) (λ _. Chain t chain × Balanced t × WellFormed t) (λ _ balanced. (linked, balanced, c.check-balance.ensures.sound)) c.check-balance.ensures.passed;
+          c.check_balance.ensures.stop o
+          ∙ (c.in_ok-check_lines.ensures (stopped (balance_stops t) o) ∙ c.in_ok-check_length.ensures.stop (stopped (lines_stops t 0 None chain) (stopped (balance_stops t) o)));
+      passed = IfOk-weaker c.check_balance.result (λ _. Balanced t) (λ _. Chain t chain × Balanced t × WellFormed t) (λ _ balanced. (linked, balanced, c.check_balance.ensures.sound)) c.check_balance.ensures.passed;
     }

@@ -9,14 +9,14 @@ use Rattle.chains.proofs.Stops.{through}
 use Rattle.chains.specs.Stops.{lines_stops}
 use Rattle.chains.proofs.checks.check_lines.Goals as goal
 
-pub returns-in-err-to : goal.returns-in-err-to
-returns-in-err-to c = λ o.
+pub returns-in_err-to : goal.returns-in_err-to
+returns-in_err-to c = λ o.
     let t = lines c.args.book.now in
     let chain = c.args.chain.now in
     let i = c.loop-i.i in
     let p = err_from_is_err_and c.from-residual.result c.from-residual.ensures.1 in
     through c.from-residual.result p.0 _ _ o p.1 p.2
-    (c.in-err-to.ensures.stop (stopped (lines_stops t (i + 1) (Some (to_of (at t (get_or chain i 0)))) (drop (i + 1) chain)) o)
+    (c.in_err-to.ensures.stop (stopped (lines_stops t (i + 1) (Some (to_of (at t (get_or chain i 0)))) (drop (i + 1) chain)) o)
     ∙ (sym (lines_step t i c.loop-i.before chain o c.loop-i-test.true) ∙ c.loop-i.invariant o))
 
 pub loop-i-preserved : goal.loop-i-preserved
@@ -24,8 +24,8 @@ loop-i-preserved c = λ o.
     let t = lines c.args.book.now in
     let chain = c.args.chain.now in
     let i = c.loop-i.i in
-    ap (λ a. stopped (lines_stops t (i + 1) (Some a) (drop (i + 1) chain)) o) c.in-ok-to.ensures.entered
-    ∙ (c.in-ok-to.ensures.stop (stopped (lines_stops t (i + 1) (Some (to_of (at t (get_or chain i 0)))) (drop (i + 1) chain)) o)
+    ap (λ a. stopped (lines_stops t (i + 1) (Some a) (drop (i + 1) chain)) o) c.in_ok-to.ensures.entered
+    ∙ (c.in_ok-to.ensures.stop (stopped (lines_stops t (i + 1) (Some (to_of (at t (get_or chain i 0)))) (drop (i + 1) chain)) o)
     ∙ (sym (lines_step t i c.loop-i.before chain o c.loop-i-test.true) ∙ c.loop-i.invariant o))
 
 pub returns : goal.returns

@@ -13,7 +13,7 @@ returns-in-Some c =
     let n = c.args.line in
     let is = line_found t n c.in-Some.found c.in-Some.ensures.line in
     let bounds = sound_parts (at t n) (sound_at t c.line.ensures.sound.1 n) in
-    let read = c.parts-of.ensures in
+    let read = c.parts_of.ensures in
     let from = read.0 ∙ ap from_of is in
     let amount = read.2 ∙ ap amount_of is in
     record { from = (from, omega (arith, from, bounds.0)); to = read.1 ∙ ap to_of is; amount = (amount, omega (arith, amount, bounds.1)) }

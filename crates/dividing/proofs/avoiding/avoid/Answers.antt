@@ -21,5 +21,5 @@ loop-i-preserved c =
 
 pub returns : goal.returns
 returns c =
-    c.lowest-open-2.ensures
+    c.lowest_open-2.ensures
     ∙ (sym (place_all (lines c.args.book.now) c.args.left.now c.args.account c.args.walked.now c.args.chain.now c.loop-i.i c.loop-i-test.false) ∙ c.loop-i.invariant)

@@ -6,4 +6,4 @@ pub returns : goal.returns
 returns c =
     let chain = c.args.chain.now in
     let rest = drop (length chain - 0) c.args.held.now in
-    ap (λ l. take (length chain) (l ++ rest)) c.copy-from-slice.ensures.after ∙ take_at chain rest (length chain) refl
+    ap (λ l. take (length chain) (l ++ rest)) c.copy_from_slice.ensures.after ∙ take_at chain rest (length chain) refl

@@ -14,8 +14,8 @@ pub bounds-left-n : goal.bounds-left-n
 bounds-left-n c =
     omega (arith, (line_bears c.args.left.now c.args.tonnes c.args.row.now c.requires.0 c.requires.1 c.loop-i.left c.loop-i.i c.loop-i-test.true c.loop-i.invariant.0 c.loop-i.invariant.1).0)
 
-pub overflow-sub-left : goal.overflow-sub-left
-overflow-sub-left c =
+pub overflow_sub-left : goal.overflow_sub-left
+overflow_sub-left c =
     omega (arith, (line_bears c.args.left.now c.args.tonnes c.args.row.now c.requires.0 c.requires.1 c.loop-i.left c.loop-i.i c.loop-i-test.true c.loop-i.invariant.0 c.loop-i.invariant.1).1, line_whole c.args.left.now c.args.tonnes c.args.row.now c.requires.0 c.requires.1 c.loop-i.left c.loop-i.i c.loop-i-test.true c.loop-i.invariant.0 c.loop-i.invariant.1)
 
 pub bounds-left-n-in-loop-i : goal.bounds-left-n-in-loop-i

@@ -6,7 +6,7 @@ use Rattle.dividing.proofs.open.line_leaves.Goals as goal
 
 pub returns-in-Some : goal.returns-in-Some
 returns-in-Some c =
-    c.leaves-account.ensures ∙ ap (leaves c.args.account) (line_found (lines c.args.book.now) c.args.line c.in-Some.found c.in-Some.ensures.line)
+    c.leaves_account.ensures ∙ ap (leaves c.args.account) (line_found (lines c.args.book.now) c.args.line c.in-Some.found c.in-Some.ensures.line)
 
 pub returns-in-None : goal.returns-in-None
 returns-in-None c =

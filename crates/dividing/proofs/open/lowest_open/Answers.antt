@@ -6,12 +6,12 @@ use Rattle.dividing.proofs.OpenLines.{lowest_of_none}
 use Rattle.dividing.proofs.open.lowest_open.Goals as goal
 
 pub loop-n-preserved : goal.loop-n-preserved
-loop-n-preserved c = below_more _ _ c.loop-n.invariant (sym c.if-is-open.ensures)
+loop-n-preserved c = below_more _ _ c.loop-n.invariant (sym c.if-is_open.ensures)
 
-pub returns-then-is-open : goal.returns-then-is-open
-returns-then-is-open c =
+pub returns-then-is_open : goal.returns-then-is_open
+returns-then-is_open c =
     let t = lines c.args.book.now in
-    sym (lowest_of_first (is_open t c.args.left.now c.args.account) 0 0 (length t) c.loop-n.n (omega arith) (omega arith) (sym c.if-is-open.ensures) (λ k ge lt. c.loop-n.invariant k lt))
+    sym (lowest_of_first (is_open t c.args.left.now c.args.account) 0 0 (length t) c.loop-n.n (omega arith) (omega arith) (sym c.if-is_open.ensures) (λ k ge lt. c.loop-n.invariant k lt))
 
 pub returns : goal.returns
 returns c =

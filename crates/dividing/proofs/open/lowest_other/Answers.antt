@@ -6,12 +6,12 @@ use Rattle.flow.specs.Rules.{is_open}
 use Rattle.dividing.proofs.OpenLines.{lowest_of_none}
 use Rattle.dividing.proofs.open.lowest_other.Goals as goal
 
-pub returns-then-is-open : goal.returns-then-is-open
-returns-then-is-open c =
+pub returns-then-is_open : goal.returns-then-is_open
+returns-then-is_open c =
     let t = lines c.args.book.now in
     let n = c.loop-n.n in
     let p : ℕ → Bool = λ m. is_open t c.args.left.now c.args.account m && not (eqb m c.args.line) in
-    let here = and_from (is_open t c.args.left.now c.args.account n) (not (eqb n c.args.line)) (sym c.if-is-open.ensures) (not_from_false (eqb n c.args.line) (ne_eqb n c.args.line c.if-other-line.true)) in
+    let here = and_from (is_open t c.args.left.now c.args.account n) (not (eqb n c.args.line)) (sym c.if-is_open.ensures) (not_from_false (eqb n c.args.line) (ne_eqb n c.args.line c.if-other-line.true)) in
     sym (lowest_of_first p c.args.line 0 (length t) n (omega arith) (omega arith) here (λ k ge lt. c.loop-n.invariant k lt))
 
 pub returns : goal.returns

@@ -12,10 +12,10 @@ pub returns : goal.returns
 returns c =
     let t = lines c.args.book.now in
     let chain = c.args.chain.now in
-    let passed = c.in-ok-check-chain.ensures.passed in
+    let passed = c.in_ok-check_chain.ensures.passed in
     let held = c.new-rule.ensures.held (chain_short t chain passed.0) in
     record {
-      stop = λ o. c.in-ok-check-chain.ensures.stop o ∙ c.in-ok-check-tables.ensures.stop (chain_stopped t chain o);
+      stop = λ o. c.in_ok-check_chain.ensures.stop o ∙ c.in_ok-check_tables.ensures.stop (chain_stopped t chain o);
       filled = subst (λ d. Filled (avoiding d) t c.args.rows.now c.args.tonnes.now c.fill.result c.fill.new.rows c.fill.new.tonnes) held c.fill.ensures;
       opposed = λ rs d. record {
         least = (avoiding_reaches_figure chain).1 t rs passed.2 passed.1 passed.0 d;

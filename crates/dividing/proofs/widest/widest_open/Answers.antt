@@ -6,7 +6,7 @@ use Rattle.book.specs.Totals.{leaves}
 use Rattle.flow.proofs.RuleLaws.{open_leaves}
 use Rattle.dividing.proofs.Widening.{Best, best_none, best_same, best_more, best_all}
 use Rattle.dividing.proofs.widest.widest_open.Goals as goal
-use Rattle.dividing.proofs.widest.widest_open.Goals.{then-tonnes-most+then-line-leaves, else-tonnes-most, else-tonnes-most-via-then-tonnes-most+else-line-leaves, else-tonnes-most-via-else-tonnes-most}
+use Rattle.dividing.proofs.widest.widest_open.Goals.{then-tonnes-most+then-line_leaves, else-tonnes-most, else-tonnes-most-via-then-tonnes-most+else-line_leaves, else-tonnes-most-via-else-tonnes-most}
 
 pub loop-n-init : goal.loop-n-init
 loop-n-init c = best_none (lines c.args.book.now) c.args.left.now c.args.account
@@ -18,12 +18,12 @@ loop-n-preserved c =
     let a = c.args.account in
     let n = c.loop-n.n in
     elim c.if-tonnes-most.branch [
-      | then-tonnes-most+then-line-leaves w ↦
-          rw (w.best-is, w.most-is) (best_more t left a n c.loop-n.best c.loop-n.most c.loop-n.invariant (sym w.line-leaves.ensures ∙ w.if-line-leaves.true) w.if-tonnes-most.true)
+      | then-tonnes-most+then-line_leaves w ↦
+          rw (w.best-is, w.most-is) (best_more t left a n c.loop-n.best c.loop-n.most c.loop-n.invariant (sym w.line_leaves.ensures ∙ w.if-line_leaves.true) w.if-tonnes-most.true)
       | else-tonnes-most w ↦
           elim w.else-tonnes-most.branch [
-            | else-tonnes-most-via-then-tonnes-most+else-line-leaves v ↦
-                let out : leaves a (at t n) ≡ false = sym v.line-leaves.ensures ∙ v.if-line-leaves.false in
+            | else-tonnes-most-via-then-tonnes-most+else-line_leaves v ↦
+                let out : leaves a (at t n) ≡ false = sym v.line_leaves.ensures ∙ v.if-line_leaves.false in
                 rw (w.best-is, w.most-is) (best_same t left a n c.loop-n.best c.loop-n.most c.loop-n.invariant (λ opened. absurd (both_ways (leaves a (at t n)) out (open_leaves t left a n opened))))
             | else-tonnes-most-via-else-tonnes-most v ↦
                 rw (w.best-is, w.most-is) (best_same t left a n c.loop-n.best c.loop-n.most c.loop-n.invariant (λ opened. v.if-tonnes-most.false))

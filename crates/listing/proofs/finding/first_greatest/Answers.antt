@@ -13,7 +13,7 @@ judge-requires c =
     let given = path c.args.walk in
     let a = subst (Ahead t c.args.floor given) c.in-Some.is (c.loop-ahead.invariant given (ahead_first t c.args.floor given c.step-ahead.result c.step-ahead.ensures)) in
     record {
-      totals = (c.in-totals-totals.ensures.len, c.in-totals-totals.ensures.totals);
+      totals = (c.in_totals-totals.ensures.len, c.in_totals-totals.ensures.totals);
       some = c.requires.some;
       balanced = c.requires.balanced;
       comes = a.stepped.comes;
@@ -41,5 +41,5 @@ pub returns : goal.returns
 returns c =
     let t = lines c.args.book.now in
     let given = path c.args.walk in
-    let a = subst (Ahead t c.args.floor given) c.in-default.is (c.loop-ahead.invariant given (ahead_first t c.args.floor given c.step-ahead.result c.step-ahead.ensures)) in
+    let a = subst (Ahead t c.args.floor given) c.in_default.is (c.loop-ahead.invariant given (ahead_first t c.args.floor given c.step-ahead.result c.step-ahead.ensures)) in
     upto_done t c.args.floor given a.last a.upto a.stepped

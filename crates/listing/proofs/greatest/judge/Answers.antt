@@ -20,15 +20,15 @@ start_of t walk chain =
 count_of : (walk : Walk) → walk.count ≡ length (path walk)
 count_of walk = sym (length-take-le walk.count walk.lines (omega arith))
 
-pub first-growth-requires : goal.first-growth-requires
-first-growth-requires c = record {
+pub first_growth-requires : goal.first_growth-requires
+first_growth-requires c = record {
   totals = c.requires.totals;
   some = c.requires.some;
   small = reached_small (lines c.args.book.now) c.requires.balanced.1 c.args.floor (path c.args.walk.now) (Some c.args.reach) c.requires.comes;
 }
 
-pub grows-left-requires : goal.grows-left-requires
-grows-left-requires c = record {
+pub grows_left-requires : goal.grows_left-requires
+grows_left-requires c = record {
   total = c.requires.totals.1 c.parts-account.result.0 c.parts-account.ensures.from.1;
   small = reached_small (lines c.args.book.now) c.requires.balanced.1 c.args.floor (path c.args.walk.now) (Some c.args.reach) c.requires.comes;
 }
@@ -57,16 +57,16 @@ climb-requires c =
       totals = c.requires.totals;
       some = c.requires.some;
       balanced = c.requires.balanced;
-      opened = whole-stops t c.args.floor c.requires.balanced.1 c.requires.balanced.0 c.requires.some (path walk) walk.count c.args.reach (count_of walk) c.requires.comes c.in-default.ensures (omega (arith, count_of walk, chain_some t (path walk) c.requires.comes.certain.0));
+      opened = whole-stops t c.args.floor c.requires.balanced.1 c.requires.balanced.0 c.requires.some (path walk) walk.count c.args.reach (count_of walk) c.requires.comes c.in_default.ensures (omega (arith, count_of walk, chain_some t (path walk) c.requires.comes.certain.0));
     }
 
-pub returns-then-grows-left : goal.returns-then-grows-left
-returns-then-grows-left c =
+pub returns-then-grows_left : goal.returns-then-grows_left
+returns-then-grows_left c =
     let t = lines c.args.book.now in
     let walk = c.args.walk.now in
     let leaves-first : c.parts-account.result.0 ≡ start t (path walk) = c.parts-account.ensures.from.0 ∙ sym (start_of t walk c.requires.comes.certain.0) in (
       grows_before t c.args.floor c.requires.balanced.1 c.requires.balanced.0 c.requires.some (path walk) c.args.reach c.requires.comes
-          (subst (λ a. Preceded t c.args.floor a c.args.reach.tonnes true) leaves-first c.if-grows-left.ensures),
+          (subst (λ a. Preceded t c.args.floor a c.args.reach.tonnes true) leaves-first c.if-grows_left.ensures),
       c.climb.ensures,
     )
 
@@ -75,5 +75,5 @@ returns c =
     let t = lines c.args.book.now in
     let walk = c.args.walk.now in
     let leaves-first : c.parts-account.result.0 ≡ start t (path walk) = c.parts-account.ensures.from.0 ∙ sym (start_of t walk c.requires.comes.certain.0) in
-    grows_nowhere t c.args.floor c.requires.balanced.1 c.requires.balanced.0 c.requires.some (path walk) c.args.reach c.requires.comes c.in-default.ensures
-    (subst (λ a. Preceded t c.args.floor a c.args.reach.tonnes false) leaves-first c.if-grows-left.ensures)
+    grows_nowhere t c.args.floor c.requires.balanced.1 c.requires.balanced.0 c.requires.some (path walk) c.args.reach c.requires.comes c.in_default.ensures
+    (subst (λ a. Preceded t c.args.floor a c.args.reach.tonnes false) leaves-first c.if-grows_left.ensures)

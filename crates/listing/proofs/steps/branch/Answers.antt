@@ -29,8 +29,8 @@ lowest-held walk kept =
     (λ past. cond-false {A = ℕ} (ltb kept walk.count) _ _ (le-ltb kept walk.count past) ∙ sym (cond-false {A = ℕ} _ _ _ (le-ltb kept (length (path walk)) (omega arith))))
     (cases_lt kept walk.count)
 
-pub first-growth-requires : goal.first-growth-requires
-first-growth-requires c =
+pub first_growth-requires : goal.first_growth-requires
+first_growth-requires c =
     let reached = came_to c.args.book.now c.args.floor c.args.walk.now c.args.kept c.front-before.result.0 c.front-before.result.1 c.requires.some c.requires.balanced c.requires.opened c.front-before.ensures in
     record {
       totals = c.requires.totals;
@@ -41,7 +41,7 @@ first-growth-requires c =
 pub branch-walk-requires : goal.branch-walk-requires
 branch-walk-requires c =
     let reached = came_to c.args.book.now c.args.floor c.args.walk.now c.args.kept c.front-before.result.0 c.front-before.result.1 c.requires.some c.requires.balanced c.requires.opened c.front-before.ensures in (
-      growth_short (lines c.args.book.now) c.args.floor c.requires.balanced.1 c.requires.balanced.0 c.requires.some (path c.args.walk.now) c.args.kept c.lowest-after-lowest.result c.front-before.result.1 c.requires.opened reached (c.lowest-after-lowest.ensures ∙ lowest-held c.args.walk.now c.args.kept) c.in-Some.line c.in-Some.reach c.in-Some.ensures,
+      growth_short (lines c.args.book.now) c.args.floor c.requires.balanced.1 c.requires.balanced.0 c.requires.some (path c.args.walk.now) c.args.kept c.lowest_after-lowest.result c.front-before.result.1 c.requires.opened reached (c.lowest_after-lowest.ensures ∙ lowest-held c.args.walk.now c.args.kept) c.in-Some.line c.in-Some.reach c.in-Some.ensures,
       c.requires.opened.within,
     )
 
@@ -49,9 +49,9 @@ pub returns-in-Some : goal.returns-in-Some
 returns-in-Some c =
     let reached = came_to c.args.book.now c.args.floor c.args.walk.now c.args.kept c.front-before.result.0 c.front-before.result.1 c.requires.some c.requires.balanced c.requires.opened c.front-before.ensures in
     subst (λ z. Found (lines c.args.book.now) c.args.floor (path c.args.walk.now) z c.in-Some.reach) (sym c.branch-walk.ensures)
-    (growth_found (lines c.args.book.now) c.args.floor c.requires.balanced.1 c.requires.balanced.0 c.requires.some (path c.args.walk.now) c.args.kept c.lowest-after-lowest.result c.front-before.result.1 c.requires.opened reached (c.lowest-after-lowest.ensures ∙ lowest-held c.args.walk.now c.args.kept) c.in-Some.line c.in-Some.reach c.in-Some.ensures)
+    (growth_found (lines c.args.book.now) c.args.floor c.requires.balanced.1 c.requires.balanced.0 c.requires.some (path c.args.walk.now) c.args.kept c.lowest_after-lowest.result c.front-before.result.1 c.requires.opened reached (c.lowest_after-lowest.ensures ∙ lowest-held c.args.walk.now c.args.kept) c.in-Some.line c.in-Some.reach c.in-Some.ensures)
 
 pub returns-in-None : goal.returns-in-None
 returns-in-None c =
     let reached = came_to c.args.book.now c.args.floor c.args.walk.now c.args.kept c.front-before.result.0 c.front-before.result.1 c.requires.some c.requires.balanced c.requires.opened c.front-before.ensures in
-    growth_none (lines c.args.book.now) c.args.floor c.requires.balanced.1 c.requires.balanced.0 c.requires.some (path c.args.walk.now) c.args.kept c.lowest-after-lowest.result c.front-before.result.1 c.requires.opened reached (c.lowest-after-lowest.ensures ∙ lowest-held c.args.walk.now c.args.kept) c.in-None.ensures
+    growth_none (lines c.args.book.now) c.args.floor c.requires.balanced.1 c.requires.balanced.0 c.requires.some (path c.args.walk.now) c.args.kept c.lowest_after-lowest.result c.front-before.result.1 c.requires.opened reached (c.lowest_after-lowest.ensures ∙ lowest-held c.args.walk.now c.args.kept) c.in-None.ensures

@@ -17,14 +17,14 @@ returns-in-Done c =
       answer = half_all t c.args.floor (vec_items c.loop-answer.list) (take c.loop-answer.given c.loop-answer.row) c.loop-answer.invariant.2 done.0 passed.2 passed.1 passed.0;
     }
 
-pub slice-bounds-row-end : goal.slice-bounds-row-end
-slice-bounds-row-end c =
+pub slice_bounds-row-end : goal.slice_bounds-row-end
+slice_bounds-row-end c =
     let t = lines c.args.book.now in
     let found = subst (λ a. Answered t c.args.floor c.loop-answer.given c.loop-answer.row (Ok a) c.next.new.row) c.in-Found.is c.in-Ok.ensures.answer in
     omega (arith, found_short t c.args.floor _ c.in-Found.found.0 c.in-Found.found.1 c.loop-answer.row c.next.new.row found, c.next.auto.row, c.loop-answer.invariant.0)
 
-pub slice-bounds-put-end : goal.slice-bounds-put-end
-slice-bounds-put-end c =
+pub slice_bounds-put-end : goal.slice_bounds-put-end
+slice_bounds-put-end c =
     let t = lines c.args.book.now in
     let found = subst (λ a. Answered t c.args.floor c.loop-answer.given c.loop-answer.row (Ok a) c.next.new.row) c.in-Found.is c.in-Ok.ensures.answer in
     sym (length-take-le c.in-Found.found.0 c.next.new.row
@@ -43,5 +43,5 @@ loop-answer-preserved c =
     let found = subst (λ a. Answered t c.args.floor c.loop-answer.given c.loop-answer.row (Ok a) c.next.new.row) c.in-Found.is c.in-Ok.ensures.answer in (
       omega (arith, c.next.auto.row, c.loop-answer.invariant.0),
       found_short t c.args.floor last c.in-Found.found.0 c.in-Found.found.1 c.loop-answer.row c.next.new.row found,
-      half_more t c.args.floor last c.in-Found.found.0 c.in-Found.found.1 c.loop-answer.row c.next.new.row found (vec_items c.loop-answer.list) (vec_items c.put.new.list) c.loop-answer.invariant.2 c.in-default.ensures,
+      half_more t c.args.floor last c.in-Found.found.0 c.in-Found.found.1 c.loop-answer.row c.next.new.row found (vec_items c.loop-answer.list) (vec_items c.put.new.list) c.loop-answer.invariant.2 c.in_default.ensures,
     )

@@ -15,14 +15,14 @@ returns-then-n-lt10 t c =
 pub put-requires-2 : goal.put-requires-2
 put-requires-2 t c =
     let short = length-decimal-le 19 (c.args.n / 10) (omega arith) (omega arith) (omega arith) in
-    omega (arith, short, c.put-decimal-last.ensures.put.place, c.put-decimal-last.auto.page)
+    omega (arith, short, c.put_decimal-last.ensures.put.place, c.put_decimal-last.auto.page)
 
 pub returns : goal.returns
 returns t c =
     let n = c.args.n in
     let digits = decimal_step n c.if-n-lt10.false (omega arith) in
     let short = length-decimal-le 19 (n / 10) (omega arith) (omega arith) (omega arith) in
-    let front = c.put-decimal-last.ensures.put in
+    let front = c.put_decimal-last.ensures.put in
     record {
       put =
           subst

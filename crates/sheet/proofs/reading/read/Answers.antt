@@ -10,7 +10,7 @@ pub returns : goal.returns
 returns c =
     let s = c.args.sheet.now in
     let p = c.args.place in
-    let answer = c.read-rest.ensures
+    let answer = c.read_rest.ensures
     ∙ (ap (command p) (take_rest s p)
     ∙ sym (cond-false _ _ _ (or_from _ _ (le-ltb 32768 (length s) (omega arith)) (le-ltb (length s) p (omega arith))))) in
     record {

@@ -7,7 +7,7 @@ returns c =
     let word = c.put-word.ensures in
     let name = c.put-name.ensures in
     let space = c.put-space.ensures in
-    let last = c.put-number-and-place.ensures in
+    let last = c.put_number_and_place.ensures in
     record {
       put =
           put_then _ _ _ _ _ _ _ _ (omega arith) word

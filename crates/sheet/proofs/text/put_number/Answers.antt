@@ -6,7 +6,7 @@ use Rattle.sheet.proofs.text.put_number.Goals as goal
 pub returns : goal.returns
 returns c =
     let space = c.put-digits.ensures in
-    let digits = c.put-decimal.ensures in
+    let digits = c.put_decimal.ensures in
     record {
       put = put_then _ _ _ _ _ _ _ _ (omega arith) space digits.put;
       short = omega (arith, space.place, digits.put.place, length-decimal-le 3 c.args.number (omega arith) (omega arith) (omega arith));

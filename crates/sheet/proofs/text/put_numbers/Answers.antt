@@ -10,8 +10,8 @@ use Rattle.sheet.proofs.text.put_numbers.Goals as goal
 pub loop-i-init : goal.loop-i-init
 loop-i-init c = (put_none _ _, omega arith)
 
-pub put-number-end-requires : goal.put-number-end-requires
-put-number-end-requires c =
+pub put_number-end-requires : goal.put_number-end-requires
+put_number-end-requires c =
     record {
       room = omega (arith, c.loop-i.invariant.1, c.loop-i.auto.page);
       posted = All-get_or (λ n. n < most_lines) c.args.numbers.now c.loop-i.i 0 c.loop-i-test.true c.requires.posted;
@@ -24,8 +24,8 @@ loop-i-preserved c =
     let more : numbers_text (take i ns) ++ (32 ∷ decimal (get_or ns i 0)) ≡ numbers_text (take (i + 1) ns) =
     flat_map_more (λ n. 32 ∷ decimal n) [] (take i ns) (get_or ns i 0) ∙ ap numbers_text (sym (take_more ns i 0 c.loop-i-test.true)) in
     let so = c.loop-i.invariant in
-    let one = c.put-number-end.ensures in (
-      subst (λ bs. Put c.args.page.now c.args.at bs c.put-number-end.new.page c.put-number-end.result) more
+    let one = c.put_number-end.ensures in (
+      subst (λ bs. Put c.args.page.now c.args.at bs c.put_number-end.new.page c.put_number-end.result) more
           (put_then _ _ _ _ _ _ _ _ (omega (arith, so.0.place, so.1)) so.0 one.put),
       omega (arith, one.short, so.1),
     )

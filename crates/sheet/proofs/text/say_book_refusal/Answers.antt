@@ -9,8 +9,8 @@ use Rattle.sheet.proofs.text.say_book_refusal.Goals as goal
 pub returns : goal.returns
 returns c =
     let f = c.args.fault.now in
-    let head = c.put-head-head.ensures in
-    let rest = c.put-detail-end.ensures in
+    let head = c.put_head-head.ensures in
+    let rest = c.put_detail-end.ensures in
     let both = put_then _ _ _ _ _ _ _ _ (omega (arith, head.put.place, head.short)) head.put rest.put in
     subst
     (λ n. Put c.args.page.now 0 (text_line (refusal_head (codes "book") n c.args.place ++ detail (number f) (carries f))) c.put.new.page c.put.result)

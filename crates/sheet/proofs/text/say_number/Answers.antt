@@ -5,7 +5,7 @@ use Rattle.sheet.proofs.text.say_number.Goals as goal
 
 pub returns : goal.returns
 returns c =
-    let both = put_then _ _ _ _ _ _ _ _ (omega arith) c.put-after.ensures c.put-decimal-end.ensures.put in
+    let both = put_then _ _ _ _ _ _ _ _ (omega arith) c.put-after.ensures c.put_decimal-end.ensures.put in
     put_then _ _ _ _ _ _ _ _
-    (omega (arith, length-append c.args.words.now (decimal c.args.n), c.put-decimal-end.ensures.put.place, c.put-decimal-end.ensures.short, c.put-after.ensures.place))
+    (omega (arith, length-append c.args.words.now (decimal c.args.n), c.put_decimal-end.ensures.put.place, c.put_decimal-end.ensures.short, c.put-after.ensures.place))
     both c.put.ensures

@@ -10,7 +10,7 @@ use Rattle.sheet.proofs.text.say_sheet_refusal.Goals as goal
 pub returns : goal.returns
 returns c =
     let f = c.args.fault.now in
-    let head = c.put-head-end.ensures in
+    let head = c.put_head-end.ensures in
     let whole = put_then _ _ _ _ _ _ _ _ (omega (arith, head.put.place, head.short)) head.put c.put.ensures in
     let text = ap (λ n. refusal_head (codes "sheet") n c.args.place) c.number.ensures
     ∙ (sym (append-nil (refusal_head (codes "sheet") (number f) c.args.place)) ∙ ap (λ d. refusal_head (codes "sheet") (number f) c.args.place ++ d) (sym (no_sheet_detail f))) in

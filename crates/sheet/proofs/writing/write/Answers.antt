@@ -13,9 +13,9 @@ returns c =
     let buffer = c.args.buffer.now in
     let answered : Outcome = answers (length (bytes m) ∷ []) in
     let room : stopped (room_stops (length buffer)) answered ≡ answered = cond-false _ _ _ (le-ltb (length buffer) 17 (omega arith)) in
-    let outcome : answered ≡ writing m (length buffer) = sym room ∙ c.in-ok-check-operands.ensures.stop (stopped (room_stops (length buffer)) answered) in
+    let outcome : answered ≡ writing m (length buffer) = sym room ∙ c.in_ok-check_operands.ensures.stop (stopped (room_stops (length buffer)) answered) in
     record {
-      answer = ap (λ n. answers (n ∷ [])) c.put-command.ensures.count ∙ outcome;
-      buffer = c.put-command.ensures.buffer ∙ ap (λ o. settled o buffer (over buffer (bytes m))) outcome;
-      back = reads_back m c.in-ok-check-operands.ensures.fit;
+      answer = ap (λ n. answers (n ∷ [])) c.put_command.ensures.count ∙ outcome;
+      buffer = c.put_command.ensures.buffer ∙ ap (λ o. settled o buffer (over buffer (bytes m))) outcome;
+      back = reads_back m c.in_ok-check_operands.ensures.fit;
     }

@@ -11,31 +11,21 @@ put-requires c =
     let n = length-lines c.args.self.now.count c.args.self.now.table.records (omega arith) in
     record { whole = c.args.self.now.whole; within = omega arith }
 
-pub invariant-of-self : goal.invariant-of-self
-invariant-of-self c =
+pub invariant_of-self : goal.invariant_of-self
+invariant_of-self c =
     let b = c.args.self.now in
     let n = length-lines b.count b.table.records (omega arith) in
     let within : b.count < length b.table.records = omega arith in
     let held : (P : Record → Type 0) → ((k : ℕ) → k < b.count → P (get_or b.table.records k blank)) → P _ → (k : ℕ) → k < b.count + 1 → P (get_or c.put.new.self.records k blank) =
-    λ P all here. subst (λ rs. (k : ℕ) → k < b.count + 1 → P (get_or rs k blank)) (sym c.put.ensures) (kept_more P b.table.records b.count _ within all here) in (
-      omega arith,
-      (
-        ap length c.put.ensures ∙ (length-set b.table.records b.count _ ∙ b.whole),
-        (
-          held (λ r. r.from < r.to) b.upward c.requires.placed.0,
-          (
-            held (λ r. r.to ≤ highest_account) b.placed c.requires.placed.1,
-            (
-              held (λ r. 0 < r.amount) b.some c.requires.sized.0,
-              (
-                held (λ r. r.amount ≤ greatest_amount) b.sized c.requires.sized.1,
-                tt,
-              ),
-            ),
-          ),
-        ),
-      ),
-    )
+    λ P all here. subst (λ rs. (k : ℕ) → k < b.count + 1 → P (get_or rs k blank)) (sym c.put.ensures) (kept_more P b.table.records b.count _ within all here) in
+    record {
+      few = omega arith;
+      whole = ap length c.put.ensures ∙ (length-set b.table.records b.count _ ∙ b.whole);
+      upward = held (λ r. r.from < r.to) b.upward c.requires.placed.0;
+      placed = held (λ r. r.to ≤ highest_account) b.placed c.requires.placed.1;
+      some = held (λ r. 0 < r.amount) b.some c.requires.sized.0;
+      sized = held (λ r. r.amount ≤ greatest_amount) b.sized c.requires.sized.1;
+    }
 
 pub returns : goal.returns
 returns c =

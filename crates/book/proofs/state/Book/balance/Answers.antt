@@ -6,5 +6,5 @@ pub returns : goal.returns
 returns c =
     let formed = well_formed c.args.self.now in
     let sound = formed.1 in
-    let answer = compared_balances (lines c.args.self.now) sound _ _ c.in-totals.ensures.totals c.out-totals.ensures.totals c.compare.result c.compare.ensures in
+    let answer = compared_balances (lines c.args.self.now) sound _ _ c.in_totals.ensures.totals c.out_totals.ensures.totals c.compare.result c.compare.ensures in
     record { answer = answer; stop = balances_stop (lines c.args.self.now) sound c.compare.result answer; sound = formed }

@@ -10,8 +10,8 @@ use Rattle.listing.specs.Nexts.{First, next_stopped}
 use Rattle.sheet.specs.LastChains.{chain_of}
 use Rattle.sheet.proofs.last.LastChain.go.Goals as goal
 
-pub invariant-of-self : goal.invariant-of-self
-invariant-of-self c =
+pub invariant_of-self : goal.invariant_of-self
+invariant_of-self c =
     let t = lines c.args.book.now in
     let told : First t c.args.floor (chain_of c.args.self.now) c.in-Ok-Found.lines c.in-Ok-Found.figure c.args.self.now.row c.next.new.row = search rules in
     (omega (arith, c.next.auto.row, c.args.self.now.whole), (omega (arith, told.long, chain_short t told.listed told.first.greatest.chain), tt))

@@ -13,8 +13,8 @@ use Rattle.sheet.proofs.ListedLines.{chain-posted, row_inside, row_in_lem, row_e
 use Rattle.sheet.proofs.Refusals.{question_refused}
 use Rattle.sheet.proofs.statement.Statement.obey_divide.Goals as goal
 
-pub say-row-requires : goal.say-row-requires
-say-row-requires c =
+pub say_row-requires : goal.say_row-requires
+say_row-requires c =
     let book = c.args.self.now.book in
     let filled = c.in-Ok.ensures.filled in
     let i = c.args.self.now.count in
@@ -23,7 +23,7 @@ say-row-requires c =
     let formed = well_formed book in
     record {
       room = omega arith;
-      tables = (omega (arith, entries, c.divide-by.auto.rows), omega (arith, c.requires.tables.1, c.divide-by.auto.tonnes));
+      tables = (omega (arith, entries, c.divide_by.auto.rows), omega (arith, c.requires.tables.1, c.divide_by.auto.tonnes));
       within = row_inside (rule_of c.args.rule) (lines book) formed _ _ _ _ _ filled entries i within;
       short = row_entry (rule_of c.args.rule) (lines book) formed _ _ _ _ _ filled entries i within;
       posted =
@@ -31,8 +31,8 @@ say-row-requires c =
           (chain-posted (lines book) (row_of filled.rows i).chain formed (row_chain (rule_of c.args.rule) (lines book) formed _ _ _ _ _ filled entries i within));
     }
 
-pub say-chain-refusal-requires : goal.say-chain-refusal-requires
-say-chain-refusal-requires c = record {
+pub say_chain_refusal-requires : goal.say_chain_refusal-requires
+say_chain_refusal-requires c = record {
   room = omega arith;
   whole =
       question_refused (lines c.args.self.now.book) (ltb (length c.args.rows.now) 16384 || ltb (length c.args.tonnes.now) 256) 10 c.in-Err.fault
@@ -54,11 +54,11 @@ returns-then-row-count c =
     c.in-Ok.ensures.stop (answers []) ∙ cond-false _ _ _ (or_from _ _ (le-ltb (length c.args.rows.now) 16384 entries) (le-ltb (length c.args.tonnes.now) 256 c.requires.tables.1)) in
     record {
       line = record {
-        text = text_line (chain_text (codes "take ") (get_or c.divide-by.new.tonnes i 0) (row_in c.divide-by.new.rows i));
-        put = c.say-row.ensures;
+        text = text_line (chain_text (codes "take ") (get_or c.divide_by.new.tonnes i 0) (row_in c.divide_by.new.rows i));
+        put = c.say_row.ensures;
         obeyed =
             subst (Divides (state c.args.self.now) _ _ c.args.after c.args.rule) passes
-            (filled.rows, filled.dividing, inl (omega (arith, filled.counted), ap (λ w. text_line (chain_text (codes "take ") w (row_in c.divide-by.new.rows i))) weight ∙ ap (λ d. text_line (chain_text (codes "take ") (row_of filled.rows i).tonnes d)) chain, refl));
+            (filled.rows, filled.dividing, inl (omega (arith, filled.counted), ap (λ w. text_line (chain_text (codes "take ") w (row_in c.divide_by.new.rows i))) weight ∙ ap (λ d. text_line (chain_text (codes "take ") (row_of filled.rows i).tonnes d)) chain, refl));
       };
-      tables = subst (Filled t c.args.rule c.args.rows.now c.args.tonnes.now c.divide-by.new.rows c.divide-by.new.tonnes) passes (filled.rows, filled.dividing, filled.table, filled.tonnes);
+      tables = subst (Filled t c.args.rule c.args.rows.now c.args.tonnes.now c.divide_by.new.rows c.divide_by.new.tonnes) passes (filled.rows, filled.dividing, filled.table, filled.tonnes);
     }

@@ -9,8 +9,8 @@ use Rattle.sheet.proofs.ListedLines.{chain-posted}
 use Rattle.sheet.proofs.Refusals.{question_refused}
 use Rattle.sheet.proofs.statement.Statement.obey_list.Goals as goal
 
-pub say-chain-requires : goal.say-chain-requires
-say-chain-requires c =
+pub say_chain-requires : goal.say_chain-requires
+say_chain-requires c =
     let book = c.args.self.now.book in
     let moved : Moved (lines book) c.args.floor (chain_of c.args.self.now.last) (Ok (Some c.in-Some.figure)) (chain_of c.go.new.self) = search rules in
     record {
@@ -19,8 +19,8 @@ say-chain-requires c =
       posted = subst (AllByRecursion (λ n. n < most_lines)) (sym c.chain.ensures.chain) (chain-posted (lines book) (chain_of c.go.new.self) (well_formed book) moved.0.greatest.chain);
     }
 
-pub say-chain-refusal-requires : goal.say-chain-refusal-requires
-say-chain-refusal-requires c = record {
+pub say_chain_refusal-requires : goal.say_chain_refusal-requires
+say_chain_refusal-requires c = record {
   room = omega arith;
   whole = question_refused (lines c.args.self.now.book) (eqb c.args.floor 0) 11 c.in-Err.fault (c.in-Err.ensures.stop (answers []));
 }

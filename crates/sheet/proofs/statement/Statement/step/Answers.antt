@@ -15,7 +15,7 @@ returns-in-Ok-Some c =
     let is : read (meaning c.in-Ok-Some.found.command) c.in-Ok-Some.found.after ≡ reading s.sheet.now s.place = search rules in
     let line = printed _ _ _ _ _ _ c.obey.auto.page did.line.put (prints_command (state s) _ did.line.text _ _ c.if-self.false is did.line.obeyed) in
     record {
-      stop = passes (length c.args.page.now) (length c.args.rows.now) (length c.args.tonnes.now) (omega arith) (omega (arith, c.if-rows-lt-TABLE-ENTRIES.false)) (omega (arith, c.if-tonnes-lt-TABLE-TONNES.false));
+      stop = passes (length c.args.page.now) (length c.args.rows.now) (length c.args.tonnes.now) (omega arith) (omega (arith, c.if-rows-lt-TABLE_ENTRIES.false)) (omega (arith, c.if-tonnes-lt-TABLE_TONNES.false));
       stepped = (line.0, line.1, subst (Touched (lines s.book) c.args.rows.now c.args.tonnes.now c.obey.new.rows c.obey.new.tonnes) is did.tables);
     }
 
@@ -24,6 +24,6 @@ returns-in-Err c =
     let s = c.args.self.now in
     let line = printed _ _ _ _ _ _ c.refuse.auto.page c.refuse.ensures.page (prints_refusal (state s) _ (number c.in-Err.fault) (carries c.in-Err.fault) c.if-self.false c.in-Err.ensures.answer c.refuse.ensures.next) in
     record {
-      stop = passes (length c.args.page.now) (length c.args.rows.now) (length c.args.tonnes.now) (omega arith) (omega (arith, c.if-rows-lt-TABLE-ENTRIES.false)) (omega (arith, c.if-tonnes-lt-TABLE-TONNES.false));
+      stop = passes (length c.args.page.now) (length c.args.rows.now) (length c.args.tonnes.now) (omega arith) (omega (arith, c.if-rows-lt-TABLE_ENTRIES.false)) (omega (arith, c.if-tonnes-lt-TABLE_TONNES.false));
       stepped = (line.0, line.1, subst (Touched (lines s.book) c.args.rows.now c.args.tonnes.now c.args.rows.now c.args.tonnes.now) c.in-Err.ensures.answer (refl, refl));
     }
