@@ -10,11 +10,11 @@ use Rattle.chains.proofs.certainty.certain.Goals as goal
 
 pub returns-in_err-check_chain : goal.returns-in_err-check_chain
 returns-in_err-check_chain c =
-    let p = err_from_is_err_and c.from-residual.result c.from-residual.ensures.1 in
+    let p = err_from_is_err_and c.from_residual.result c.from_residual.ensures.1 in
     record {
-      stop = λ o. through c.from-residual.result p.0 _ _ o p.1 p.2 (c.in_err-check_chain.ensures.stop o);
-      answer = IfOk-from_err c.from-residual.result _ c.from-residual.ensures.0;
-      agreed = IfOk-from_err c.from-residual.result _ c.from-residual.ensures.0;
+      stop = λ o. through c.from_residual.result p.0 _ _ o p.1 p.2 (c.in_err-check_chain.ensures.stop o);
+      answer = IfOk-from_err c.from_residual.result _ c.from_residual.ensures.0;
+      agreed = IfOk-from_err c.from_residual.result _ c.from_residual.ensures.0;
     }
 
 pub returns : goal.returns

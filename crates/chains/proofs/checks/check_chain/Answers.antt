@@ -13,21 +13,21 @@ use Rattle.chains.proofs.checks.check_chain.Goals as goal
 pub returns-in_err-check_length : goal.returns-in_err-check_length
 returns-in_err-check_length c =
     let t = lines c.args.book.now in
-    let p = err_from_is_err_and c.from-residual.result c.from-residual.ensures.1 in
+    let p = err_from_is_err_and c.from_residual.result c.from_residual.ensures.1 in
     record {
-      stop = λ o. through c.from-residual.result p.0 _ _ o p.1 p.2 (c.in_err-check_length.ensures.stop (stopped (lines_stops t 0 None c.args.chain.now) (stopped (balance_stops t) o)));
-      passed = IfOk-from_err c.from-residual.result _ c.from-residual.ensures.0;
+      stop = λ o. through c.from_residual.result p.0 _ _ o p.1 p.2 (c.in_err-check_length.ensures.stop (stopped (lines_stops t 0 None c.args.chain.now) (stopped (balance_stops t) o)));
+      passed = IfOk-from_err c.from_residual.result _ c.from_residual.ensures.0;
     }
 
 pub returns-in_err-check_lines : goal.returns-in_err-check_lines
 returns-in_err-check_lines c =
     let t = lines c.args.book.now in
-    let p = err_from_is_err_and c.from-residual-in_err-check_lines.result c.from-residual-in_err-check_lines.ensures.1 in
+    let p = err_from_is_err_and c.from_residual-in_err-check_lines.result c.from_residual-in_err-check_lines.ensures.1 in
     record {
       stop = λ o.
-          through c.from-residual-in_err-check_lines.result p.0 _ _ o p.1 p.2
+          through c.from_residual-in_err-check_lines.result p.0 _ _ o p.1 p.2
           (c.in_err-check_lines.ensures (stopped (balance_stops t) o) ∙ c.in_ok-check_length.ensures.stop (stopped (lines_stops t 0 None c.args.chain.now) (stopped (balance_stops t) o)));
-      passed = IfOk-from_err c.from-residual-in_err-check_lines.result _ c.from-residual-in_err-check_lines.ensures.0;
+      passed = IfOk-from_err c.from_residual-in_err-check_lines.result _ c.from_residual-in_err-check_lines.ensures.0;
     }
 
 pub returns : goal.returns

@@ -14,8 +14,8 @@ returns-in_err-to c = λ o.
     let t = lines c.args.book.now in
     let chain = c.args.chain.now in
     let i = c.loop-i.i in
-    let p = err_from_is_err_and c.from-residual.result c.from-residual.ensures.1 in
-    through c.from-residual.result p.0 _ _ o p.1 p.2
+    let p = err_from_is_err_and c.from_residual.result c.from_residual.ensures.1 in
+    through c.from_residual.result p.0 _ _ o p.1 p.2
     (c.in_err-to.ensures.stop (stopped (lines_stops t (i + 1) (Some (to_of (at t (get_or chain i 0)))) (drop (i + 1) chain)) o)
     ∙ (sym (lines_step t i c.loop-i.before chain o c.loop-i-test.true) ∙ c.loop-i.invariant o))
 

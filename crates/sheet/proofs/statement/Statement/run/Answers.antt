@@ -5,8 +5,8 @@ use Rattle.sheet.proofs.statement.Statement.run.Goals as goal
 
 pub returns-in_err-add_line : goal.returns-in_err-add_line
 returns-in_err-add_line c =
-    let p = err_from_is_err_and c.from-residual.result c.from-residual.ensures.1 in
-    ran_refused _ _ _ _ _ _ _ _ c.loop.invariant.1 c.from-residual.result p.0 p.1 c.in_err-add_line.ensures
+    let p = err_from_is_err_and c.from_residual.result c.from_residual.ensures.1 in
+    ran_refused _ _ _ _ _ _ _ _ c.loop.invariant.1 c.from_residual.result p.0 p.1 c.in_err-add_line.ensures
 
 pub returns-then-branch : goal.returns-then-branch
 returns-then-branch c = ran_over _ _ _ _ _ _ _ c.args.most c.loop.invariant.1 c.loop-test.true _ c.if-branch.true c.in_ok-add_line.ensures
