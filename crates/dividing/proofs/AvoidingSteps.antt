@@ -4,7 +4,7 @@ use Rattle.std.proofs.lemmas.List.{at_drop_more, at_drop_all, take_more}
 use Rattle.std.proofs.lemmas.Bool.{and_left, both_ways, cond-true, cond-false, eq-eqb, ne_eqb, lt-leb, le-ltb, lt-ltb}
 use Rattle.std.proofs.lemmas.Slice.Eq.{compares_Decides, slice_eq-Decides}
 use Rattle.std.proofs.lemmas.Bool.Decides.{same_from_decides, Decides-eqb}
-use Rattle.std.specs.Cmp.Lexicographic.{Matches}
+use Rattle.std.specs.Cmp.Lexicographic.{pointwise}
 use Rattle.book.specs.Search.{lowest_of}
 use Rattle.book.specs.Tally.{Tally, at}
 use Rattle.book.specs.Totals.{leaves}
@@ -61,7 +61,7 @@ module _ (t : Tally) (left : List ℕ) (a : ℕ) (walked : List ℕ) where
     pub turn-lowest : ends_with walked front ≡ false → get_or left n 0 ≡ 0 → lowest t left a walked ≡ turn front n t left a walked
     turn-lowest elsewhere none = sym (cond-false (ends_with walked front) _ _ elsewhere ∙ cond-false (ltb 0 (get_or left n 0)) _ _ (le-ltb 0 (get_or left n 0) (omega arith)))
 
-pub ends_is : (walked front : List ℕ) (r : Bool) → Matches (λ (m n : ℕ) (b : Bool). Decides b (m ≡ n)) front (drop (length walked - length front) walked) r → ends_with walked front ≡ r
+pub ends_is : (walked front : List ℕ) (r : Bool) → r ≡ pointwise eqb front (drop (length walked - length front) walked) → ends_with walked front ≡ r
 ends_is walked front r matches =
     let rest = drop (length walked - length front) walked in
     same_from_decides (same_list front rest) r (compares_Decides same_list (search rules) front rest) (slice_eq-Decides Decides-eqb front rest r matches)

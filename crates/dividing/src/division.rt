@@ -19,7 +19,7 @@ use chains::{Fault, check_balance};
 pub fn fill<R: Rule>(book: &Book, rule: &R, rows: &mut [u16], tonnes: &mut [u32]) -> usize
     requires room { (table_entries ≤ length rows.old) × (table_tonnes ≤ length tonnes.old) }
     requires balanced { Balanced (lines book.now) }
-    ensures { Filled (choice rule.now) (lines book.now) rows.old tonnes.old result rows.new tonnes.new }
+    ensures { Filled (R.choice rule.now) (lines book.now) rows.old tonnes.old result rows.new tonnes.new }
 {
     let ins = book.in_totals();
     let outs = book.out_totals();
@@ -40,7 +40,7 @@ pub fn divide<R: Rule>(
     tonnes: &mut [u32],
 ) -> Result<usize, Fault>
     ensures stop { (o : Outcome) → checked result o ≡ divide_stopped (lines book.now) (length rows.old) (length tonnes.old) o }
-    ensures filled { Answered (choice rule.now) (lines book.now) rows.old tonnes.old result rows.new tonnes.new }
+    ensures filled { Answered (R.choice rule.now) (lines book.now) rows.old tonnes.old result rows.new tonnes.new }
 {
     check_tables(rows.len(), tonnes.len())?;
     check_balance(book)?;

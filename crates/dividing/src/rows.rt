@@ -32,7 +32,7 @@ fn follow<R: Rule>(
 ) -> (u16, u8, u32)
     requires sound { WellFormed (lines book.now) }
     requires opened { (n : ℕ) × Open (lines book.now) left.now account n }
-    ensures { Followed (choice rule.now) (lines book.now) left.now account walked.now result.0 result.1 result.2 }
+    ensures { Followed (R.choice rule.now) (lines book.now) left.now account walked.now result.0 result.1 result.2 }
 {
     let line = rule.name(book, left, account, walked);
     let (_, to, _) = parts(book, line);
@@ -54,7 +54,7 @@ fn walk<R: Rule>(
     requires totals { (a : ℕ) → a < accounts → slice_index outs.now a ≡ out_total (lines book.now) a }
     requires source { LowestSource (lines book.now) left.now start }
     requires room { length row.old ≡ row_stride }
-    ensures { Walked (choice rule.now) (lines book.now) left.now start row.old result.0 result.1 row.new }
+    ensures { Walked (R.choice rule.now) (lines book.now) left.now start row.old result.0 result.1 row.new }
 {
     let mut account = start;
     let mut length = 0;
@@ -83,7 +83,7 @@ fn put_row<R: Rule>(
     requires totals { (a : ℕ) → a < accounts → slice_index outs.now a ≡ out_total (lines book.now) a }
     requires source { LowestSource (lines book.now) left.old start }
     requires room { length row.old ≡ row_stride }
-    ensures { RowPut (choice rule.now) (lines book.now) left.old 0 row.old result left.new row.new }
+    ensures { RowPut (R.choice rule.now) (lines book.now) left.old 0 row.old result left.new row.new }
 {
     let (length, least) = walk(book, rule, outs, left, start, row);
     row[0] = length as u16;
@@ -106,7 +106,7 @@ pub fn put_numbered<R: Rule>(
     requires totals { (a : ℕ) → a < accounts → slice_index outs.now a ≡ out_total (lines book.now) a }
     requires source { LowestSource (lines book.now) left.old start }
     requires room { (number < most_lines) × (table_entries ≤ length rows.old) }
-    ensures { RowPut (choice rule.now) (lines book.now) left.old (row_stride * number) rows.old result left.new rows.new }
+    ensures { RowPut (R.choice rule.now) (lines book.now) left.old (row_stride * number) rows.old result left.new rows.new }
 {
     let at = ROW_STRIDE * number;
     put_row(

@@ -28,8 +28,8 @@ loop-account-preserved g c =
     c.loop-account.account c.loop-account.length c.loop-account.least c.loop-account.row c.loop-account.invariant
     c.follow-line.result.0 c.follow-line.result.1 c.follow-line.result.2 c.requires.room (omega (arith, c.follow-line.ensures.tonnes_left, c.fits-left c.follow-line.result.0)) c.follow-line.ensures)
 
-pub shape_of_row : goal.shape_of_row
-shape_of_row g c = c.loop-account.invariant.long
+pub shape_of-row : goal.shape_of-row
+shape_of-row g c = c.loop-account.invariant.long
 
 pub returns : goal.returns
 returns g c =

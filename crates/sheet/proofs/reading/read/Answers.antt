@@ -15,5 +15,5 @@ returns c =
     ∙ sym (cond-false _ _ _ (or_from _ _ (le-ltb 32768 (length s) (omega arith)) (le-ltb (length s) p (omega arith))))) in
     record {
       answer = answer;
-      spelled = subst (Spelled s p) (sym answer) (spelled s p (All-from_get_or (λ b. b < 256) s 0 (λ i _. omega (arith, c.type-inv.sheet i))));
+      spelled = subst (Spelled s p) (sym answer) (spelled s p (All-from_get_or (λ b. b < 256) s 0 (λ i _. omega (arith, c.type_inv.sheet i))));
     }
