@@ -5,6 +5,6 @@ pub returns : goal.returns
 returns c = record {
   entry = record { chain = c.in_ok-chain.chain; figure = c.args.figure };
   behind = c.in_ok-push.ensures.items;
-  numbers_told = c.in_ok-chain.ensures.items-if-clones-equal (λ x y same. same);
+  numbers_told = c.in_ok-chain.ensures.items_if_clones_equal (λ x y same. same);
   amount = refl;
 }

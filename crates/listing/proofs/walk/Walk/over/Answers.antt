@@ -8,7 +8,7 @@ invariant_of-result c =
     let n = length c.args.given.now in
     let blank = replicate {A = ℕ} longest_chain 0 in
     let copied = ap length c.copy_from_slice.ensures.after in
-    (length-append c.copy_from_slice.new.self (drop n blank) ∙ omega (arith, copied, length-drop n blank), (c.requires, tt))
+    record { whole = length-append c.copy_from_slice.new.self (drop n blank) ∙ omega (arith, copied, length-drop n blank); few = c.requires }
 
 pub returns : goal.returns
 returns c = take_at c.copy_from_slice.new.self _ (length c.args.given.now) (ap length c.copy_from_slice.ensures.after) ∙ c.copy_from_slice.ensures.after
