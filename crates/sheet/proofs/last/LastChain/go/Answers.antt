@@ -14,7 +14,7 @@ pub invariant_of-self : goal.invariant_of-self
 invariant_of-self c =
     let t = lines c.args.book.now in
     let told : First t c.args.floor (chain_of c.args.self.now) c.in-Ok-Found.lines c.in-Ok-Found.figure c.args.self.now.row c.next.new.row = search rules in
-    (omega (arith, c.next.auto.row, c.args.self.now.whole), (omega (arith, told.long, chain_short t told.listed told.first.greatest.chain), tt))
+    record { whole = omega (arith, c.next.auto.row, c.args.self.now.whole); within = omega (arith, told.long, chain_short t told.listed told.first.greatest.chain) }
 
 pub returns-in-Ok-Found : goal.returns-in-Ok-Found
 returns-in-Ok-Found c =
