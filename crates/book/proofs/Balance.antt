@@ -1,15 +1,15 @@
 -- From equal totals by account to balance, and what every book has. Assumes nothing.
-use Rattle.std.proofs.Common.{◌≡◌, ℕ, ◌+◌, ◌<◌, ◌≤◌, Bool, true, false, cond, not, ◌&&◌, ◌||◌, eqb, List, [], ◌∷◌, map, length, get_or, take, Ok, Err, Result, sym, refl, ap, ◌∙◌, subst, inl, inr, ⊎_elim, arith}
+use Rattle.std.proofs.Common.{◌≡◌, ℕ, ◌<◌, ◌≤◌, true, false, cond, not, ◌&&◌, eqb, List, [], ◌∷◌, get_or, Ok, Err, Result, sym, refl, ap, ◌∙◌, subst, ⊎_elim, arith}
 use Rattle.std.proofs.ByRecursion.{All-from_get_or}
 use Rattle.std.proofs.lemmas.Bool.{cases_Bool, cases_lt, cond-true, cond-false, or_cases, or_left, or_right, and_from, and_parts, eqb-true, eqb-false, ne_eqb, not-true, not_from_false, both_ways}
 use Rattle.std.specs.List.{AllByRecursion}
 use Rattle.book.specs.Faults.{refusal, checked}
-use Rattle.book.specs.Limits.{most_lines, accounts, highest_account, greatest_amount}
+use Rattle.book.specs.Limits.{accounts, highest_account, greatest_amount}
 use Rattle.book.specs.Lines.{lines}
 use Rattle.book.specs.Outcome.{Outcome, book, refuses, stopped}
 use Rattle.book.specs.Records.{line_of, blank}
 use Rattle.book.specs.Tally.{Tally, Sound, WellFormed}
-use Rattle.book.specs.Totals.{total, any, figure, touches, side_total, in_total, out_total, amount_of, enters, leaves, Compared, Differs, differs, Balances, balance_stops, Agree}
+use Rattle.book.specs.Totals.{any, touches, side_total, in_total, out_total, amount_of, enters, leaves, Compared, Differs, differs, Balances, balance_stops, Agree}
 use Rattle.book.specs.declared.entries.Fault.{Fault}
 use Rattle.book.specs.declared.entries.Fault.TheVariants.{Unbalanced}
 use Rattle.book.specs.declared.entries.Line.{Line}

@@ -1,7 +1,6 @@
 -- The steps of a run of calls. Assumes nothing.
-use Rattle.std.proofs.Common.{◌≡◌, ℕ, ◌+◌, ◌<◌, ◌≤◌, List, [], ◌∷◌, ◌++◌, map, length, get_or, drop, sym, refl, ap, ◌∙◌}
+use Rattle.std.proofs.Common.{◌≡◌, ℕ, ◌+◌, ◌<◌, ◌≤◌, List, [], ◌∷◌, ◌++◌, length, get_or, drop, sym, ap, ◌∙◌}
 use Rattle.std.proofs.lemmas.List.{at_drop_more, at_drop_all, append_assoc, append-nil}
-use Rattle.book.specs.Faults.{told}
 use Rattle.book.specs.Outcome.{Outcome}
 use Rattle.book.specs.Tally.{Tally, tally, outcomes, outcome, after}
 use Rattle.book.specs.declared.entries.Call.{Call}

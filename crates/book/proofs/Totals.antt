@@ -1,11 +1,10 @@
 -- The running totals of a book's records. Assumes nothing.
-use Rattle.std.proofs.Common.{◌≡◌, ℕ, ◌+◌, ◌*◌, ◌<◌, ◌≤◌, Bool, true, false, cond, eqb, List, [], ◌∷◌, map, length, get_or, take, drop, set, replicate, sym, refl, ap, ◌∙◌, subst, ⊎_elim, arith}
-use Rattle.std.proofs.lemmas.List.{length-replicate, get_or-replicate, at_drop_more, at_drop_all, length-set, length-take-le, get_or-take, get_or-set_same, get_or-set_other}
+use Rattle.std.proofs.Common.{◌≡◌, ℕ, ◌+◌, ◌*◌, ◌<◌, ◌≤◌, true, false, cond, eqb, List, map, length, get_or, drop, set, replicate, sym, ap, ◌∙◌, ⊎_elim, arith}
+use Rattle.std.proofs.lemmas.List.{length-replicate, get_or-replicate, at_drop_more, at_drop_all, length-set, get_or-set_same, get_or-set_other}
 use Rattle.std.proofs.lemmas.Bool.{cases_eq, cond-true, cond-false, eq-eqb, ne_eqb}
 use Rattle.book.specs.Limits.{accounts, highest_account, greatest_amount}
 use Rattle.book.specs.Records.{line_of, blank, account_of}
-use Rattle.book.specs.Tally.{Tally}
-use Rattle.book.specs.Totals.{total, figure, touches, amount_of}
+use Rattle.book.specs.Totals.{total, figure}
 use Rattle.book.specs.declared.entries.Line.TheVariants.{Live, Struck}
 use Rattle.book.specs.declared.table.Record.{Record}
 use Rattle.book.specs.declared.table.Side.{Side}

@@ -5,7 +5,7 @@
 --   told              the answer of any call as an outcome
 --   checked           a check as what it does to the outcome that would follow
 use Rattle.std.specs.Prelude.{ℕ, List, [], ◌∷◌, Ok, Err, Result}
-use Rattle.book.specs.Outcome.{Layer, book, Outcome, answers, refuses}
+use Rattle.book.specs.Outcome.{book, Outcome, answers, refuses}
 use Rattle.book.specs.declared.entries.Answer.{Answer}
 use Rattle.book.specs.declared.entries.Answer.TheVariants.{Posted, Done, Refused}
 use Rattle.book.specs.declared.entries.Fault.{Fault}

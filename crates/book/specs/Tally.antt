@@ -10,7 +10,7 @@
 use Rattle.std.specs.Prelude.{ℕ, ◌<◌, ◌≤◌, Bool, true, false, not, ◌||◌, List, [], ◌∷◌, ◌++◌, length, ◌==◌, nat_le, nat_lt, slice_index_or, slice_set}
 use Rattle.std.specs.List.{AllByRecursion}
 use Rattle.book.specs.Limits.{most_lines, highest_account, greatest_amount}
-use Rattle.book.specs.Outcome.{Layer, book, Outcome, answers, Stop, stop, stopped, settled}
+use Rattle.book.specs.Outcome.{book, Outcome, answers, Stop, stop, stopped, settled}
 use Rattle.book.specs.declared.entries.Line.{Line}
 use Rattle.book.specs.declared.entries.Line.TheVariants.{Live, Struck}
 use Rattle.book.specs.declared.entries.Call.{Call}

@@ -1,9 +1,9 @@
 -- The stops of a chain's lines, one line after the other, and the chain where none is met. Assumes nothing.
-use Rattle.std.proofs.Common.{◌≡◌, ℕ, ◌+◌, ◌<◌, ◌≤◌, Bool, true, false, not, ◌&&◌, leb, List, [], ◌∷◌, ◌++◌, length, get_or, drop, Some, None, Option, sym, refl, ap, ◌∙◌, arith}
+use Rattle.std.proofs.Common.{◌≡◌, ℕ, ◌+◌, ◌<◌, ◌≤◌, true, leb, List, [], ◌∷◌, length, get_or, drop, Some, None, Option, refl, ◌∙◌, arith}
 use Rattle.std.proofs.lemmas.List.{at_drop_more, at_drop_all}
 use Rattle.std.proofs.lemmas.Bool.{and_from, not-false, le-leb}
 use Rattle.std.specs.List.{AllByRecursion}
-use Rattle.book.specs.Outcome.{Outcome, Stop, stopped}
+use Rattle.book.specs.Outcome.{Outcome, stopped}
 use Rattle.book.specs.Tally.{Tally, at, is_live}
 use Rattle.book.specs.Totals.{leaves}
 use Rattle.flow.specs.Chains.{longest_chain, to_of, runs, linked, Chain}

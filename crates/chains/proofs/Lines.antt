@@ -1,14 +1,12 @@
 -- What reading one line of a book tells. Assumes nothing.
-use Rattle.std.proofs.Common.{◌≡◌, ℕ, ◌<◌, ◌≤◌, cond, ltb, length, Some, None, Option, sym, refl, ap, ◌∙◌, ⊎_elim, arith}
+use Rattle.std.proofs.Common.{◌≡◌, ℕ, ◌<◌, ◌≤◌, cond, ltb, length, Some, None, ◌∙◌, ⊎_elim, arith}
 use Rattle.std.proofs.lemmas.List.{get_or_past}
 use Rattle.std.proofs.lemmas.Bool.{cases_lt, cond-true, cond-false, lt-ltb, le-ltb}
-use Rattle.std.specs.List.{AllByRecursion}
 use Rattle.book.specs.Limits.{accounts, greatest_amount}
 use Rattle.book.specs.Tally.{Tally, at, Sound}
 use Rattle.book.specs.Totals.{amount_of}
 use Rattle.book.specs.declared.entries.Line.{Line}
 use Rattle.book.specs.declared.entries.Line.TheVariants.{Live, Struck}
-use Rattle.flow.proofs.ChainFacts.{sound_at}
 use Rattle.flow.specs.Chains.{from_of}
 
 pub line_found : (t : Tally) (n : ℕ) (l : Line) → Some l ≡ cond (ltb n (length t)) (Some (at t n)) None → l ≡ at t n

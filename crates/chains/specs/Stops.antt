@@ -4,7 +4,7 @@
 --   line_stops     one line of a chain, where the line before it enters an account or there is none
 --   lines_stops    each line in turn
 --   chain_stopped  of a chain that is handed to a question: its length, each of its lines, and the balance last
-use Rattle.std.specs.Prelude.{ℕ, ◌+◌, false, not, ◌||◌, List, [], ◌∷◌, ◌++◌, length, Some, None, Option, ◌==◌, nat_lt}
+use Rattle.std.specs.Prelude.{ℕ, ◌+◌, not, ◌||◌, List, [], ◌∷◌, ◌++◌, length, Some, None, Option, ◌==◌, nat_lt}
 use Rattle.book.specs.Outcome.{chain, Outcome, answers, refuses, Stop, stop, stopped}
 use Rattle.book.specs.Tally.{Tally, at, line_stops as book_stops}
 use Rattle.book.specs.Totals.{leaves, balance_stops}

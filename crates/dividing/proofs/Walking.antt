@@ -6,7 +6,7 @@ use Rattle.std.proofs.lemmas.Bool.{both_ways}
 use Rattle.book.proofs.Balance.{touched}
 use Rattle.book.specs.Limits.{accounts}
 use Rattle.book.specs.Overlay.{laid}
-use Rattle.book.specs.Tally.{Tally, at, WellFormed}
+use Rattle.book.specs.Tally.{Tally, WellFormed}
 use Rattle.book.specs.Totals.{any, leaves, Leaves, out_total}
 use Rattle.book.specs.declared.table.Side.TheVariants.{Out}
 use Rattle.dividing.specs.Rows.{Followed, Walked}

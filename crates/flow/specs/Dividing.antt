@@ -6,7 +6,7 @@
 --   off        the tonnes left after a row is taken off its lines
 --   Divides    the rows from given tonnes left until nothing is left
 --   Dividing   the rows of a book under a rule
-use Rattle.std.specs.Prelude.{◌≡◌, ℕ, ◌-◌, ◌<◌, min, Bool, true, false, List, [], ◌∷◌, ◌++◌, map, length, replicate, slice_index, slice_set}
+use Rattle.std.specs.Prelude.{◌≡◌, ℕ, ◌-◌, ◌<◌, min, false, List, [], ◌∷◌, ◌++◌, map, length, replicate, slice_index, slice_set}
 use Rattle.book.specs.Limits.{most_lines}
 use Rattle.book.specs.Tally.{Tally, at}
 use Rattle.book.specs.Totals.{amount_of, any, leaves}

@@ -5,7 +5,7 @@
 --   lowest     rule 0: the lowest open line; 0 where none is open
 --   widest     rule 1: the open line with most tonnes left, the lowest among equals; 0 where none is open
 --   avoiding   the rule that keeps tonnes off a chain while it can
-use Rattle.std.specs.Prelude.{◌≡◌, ℕ, zero, suc, ◌+◌, ◌-◌, Bool, true, false, cond, not, ◌&&◌, ◌||◌, List, [], ◌∷◌, ◌++◌, length, drop, ◌==◌, nat_lt, slice_index}
+use Rattle.std.specs.Prelude.{◌≡◌, ℕ, ◌-◌, Bool, true, false, cond, not, ◌&&◌, List, [], ◌∷◌, ◌++◌, length, drop, ◌==◌, nat_lt, slice_index}
 use Rattle.book.specs.Search.{lowest_of, some_of}
 use Rattle.book.specs.Limits.{most_lines}
 use Rattle.book.specs.Tally.{Tally, at, WellFormed}

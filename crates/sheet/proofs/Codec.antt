@@ -1,10 +1,10 @@
 -- Bytes of commands and back. Assumes nothing.
-use Rattle.std.proofs.Common.{◌≡◌, ℕ, ◌+◌, ◌-◌, ◌*◌, ◌/◌, ◌%◌, ◌^◌, ◌<◌, ◌≤◌, Bool, true, false, cond, ◌||◌, eqb, ltb, List, [], ◌∷◌, ◌++◌, length, get_or, take, drop, sym, refl, ap, ◌∙◌, subst, arith}
+use Rattle.std.proofs.Common.{◌≡◌, ℕ, ◌+◌, ◌*◌, ◌/◌, ◌%◌, ◌^◌, ◌<◌, ◌≤◌, true, cond, ◌||◌, eqb, ltb, List, [], ◌∷◌, ◌++◌, length, get_or, take, drop, sym, refl, ap, ◌∙◌, subst, arith}
 use native.Mathlib.Nat.{div-div-eq-div-mul}
 use Rattle.std.proofs.ByRecursion.{All-drop}
-use Rattle.std.proofs.lemmas.List.{length-take-le, length-drop, length-append, drop_at, take_at, take_all}
-use Rattle.std.proofs.lemmas.Bool.{cond_both, cond-true, cond-false, le-ltb, lt-ltb, ltb-false, eqb-true, or_from, or_parts}
-use Rattle.std.specs.List.{prefix_len, AllByRecursion}
+use Rattle.std.proofs.lemmas.List.{length-take-le, length-drop, length-append, drop_at, take_at}
+use Rattle.std.proofs.lemmas.Bool.{cond_both, cond-true, cond-false, le-ltb, ltb-false, eqb-true, or_from, or_parts}
+use Rattle.std.specs.List.{AllByRecursion}
 use Rattle.sheet.specs.Commands.{longest_sheet, note_length, last_rule, Meaning, post, amend, strike, clear, note, list, divide, bytes, big2, big4, printable, Fit}
 use Rattle.sheet.specs.Reading.{Reading, end, read, refused, value2, value4, command, post_at, amend_at, strike_at, note_at, list_at, divide_at, whole, clean, reading, Spelled, ReadsBack}
 

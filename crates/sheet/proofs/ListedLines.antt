@@ -1,18 +1,16 @@
 -- What chains and rows have for printing: few lines, each posted. Assumes nothing.
-use Rattle.std.proofs.Common.{◌≡◌, ℕ, ◌*◌, ◌<◌, ◌≤◌, List, ◌++◌, map, length, get_or, drop, sym, refl, ap, ◌∙◌, arith}
+use Rattle.std.proofs.Common.{◌≡◌, ℕ, ◌*◌, ◌<◌, ◌≤◌, List, map, length, get_or, drop, ap, ◌∙◌, arith}
 use Rattle.std.proofs.ByRecursion.{All-weaker, All-get_or}
 use Rattle.std.proofs.lemmas.List.{get_or_append_left, get_or-map, length-map}
 use Rattle.std.proofs.lemmas.List.Sums.{count_by-le-length}
 use Rattle.std.specs.List.{AllByRecursion}
 use Rattle.book.specs.Limits.{most_lines}
-use Rattle.book.specs.Overlay.{over}
 use Rattle.book.specs.Tally.{Tally, is_live, WellFormed}
 use Rattle.dividing.specs.Filling.{Filled}
-use Rattle.dividing.specs.Tables.{row_stride, table_entries, table_tonnes, written}
+use Rattle.dividing.specs.Tables.{row_stride, table_entries, table_tonnes}
 use Rattle.flow.proofs.ChainFacts.{chain_within, chain_short}
 use Rattle.flow.specs.Chains.{longest_chain, Chain, Full}
 use Rattle.flow.specs.Rules.{Choice}
-use Rattle.flow.specs.Splits.{Row}
 use Rattle.sheet.specs.Rows.{row_in}
 use Rattle.sheet.specs.Statements.{row_of}
 use Rattle.sheet.proofs.TableRows.{row_length, row_lines, row_short}

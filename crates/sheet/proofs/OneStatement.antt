@@ -1,16 +1,16 @@
 -- A sheet has one statement. Assumes nothing.
-use Rattle.std.proofs.Common.{◌≡◌, ℕ, ◌<◌, ◌≤◌, true, false, ◌⊎◌, List, [], ◌∷◌, ◌++◌, length, codes, decimal, sym, refl, ap, ◌∙◌, subst, inl, inr, arith}
+use Rattle.std.proofs.Common.{◌≡◌, ℕ, List, [], ◌∷◌, codes, sym, refl, ap, ◌∙◌, subst, inl, inr, arith}
 use Rattle.std.proofs.lemmas.Bool.{both_ways}
 use Rattle.book.specs.Outcome.{Outcome, answers, refuses, stopped}
 use Rattle.book.specs.Totals.{balance_stops}
 use Rattle.flow.proofs.Divided.{divides_alone}
 use Rattle.flow.proofs.Listed.{first_after_same}
-use Rattle.flow.specs.Dividing.{Dividing, amounts}
+use Rattle.flow.specs.Dividing.{amounts}
 use Rattle.flow.specs.Excess.{figure}
 use Rattle.flow.specs.Splits.{Row}
 use Rattle.sheet.specs.Commands.{Meaning, post, amend, strike, clear, note, list, divide}
 use Rattle.sheet.specs.Reading.{Reading, end, read, refused, reading}
-use Rattle.sheet.specs.Statements.{State, text_line, chain_text, rule_of, row_of, goes, lists, takes, list_stopped, Simple, Lists, Rowed, Divides, Obeyed, refused_line, refused_next, Answered, Prints, Over, Rest}
+use Rattle.sheet.specs.Statements.{State, text_line, chain_text, rule_of, lists, list_stopped, Lists, Rowed, Divides, Obeyed, Answered, Prints, Over, Rest}
 
 -- two lines and two states are the same
 pub record Same (l m : List ℕ) (b c : State) : Type 0 where

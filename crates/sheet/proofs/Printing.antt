@@ -1,12 +1,12 @@
 -- From a line put on the page to a step of the statement. Assumes nothing.
-use Rattle.std.proofs.Common.{◌≡◌, ℕ, ◌≤◌, false, List, [], ◌∷◌, ◌++◌, length, take, drop, sym, refl, ap, ◌∙◌, subst, arith}
+use Rattle.std.proofs.Common.{◌≡◌, ℕ, ◌≤◌, false, List, [], ◌++◌, length, take, drop, sym, refl, ap, ◌∙◌, subst, arith}
 use Rattle.std.proofs.lemmas.List.{length-append, take_at}
 use Rattle.std.proofs.lemmas.Bool.{cond-false, or_from, le-ltb}
 use Rattle.book.specs.Outcome.{Outcome, answers}
 use Rattle.dividing.specs.Tables.{table_entries, table_tonnes}
 use Rattle.sheet.specs.Commands.{Meaning}
 use Rattle.sheet.specs.Page.{Put}
-use Rattle.sheet.specs.Reading.{Reading, read, refused, reading, refusal}
+use Rattle.sheet.specs.Reading.{read, refused, reading, refusal}
 use Rattle.sheet.specs.declared.command.Fault.{Fault}
 use Rattle.sheet.specs.Statements.{State, shortest_page, Obeyed, refused_line, refused_next, Answered, Prints}
 use Rattle.sheet.specs.Stepping.{Printed, step_stopped}

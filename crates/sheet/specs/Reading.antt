@@ -6,7 +6,7 @@
 --   Spelled     what is read stands in the sheet, byte by byte
 --   ReadsBack  a command's bytes are read as that command
 --   number, carries, refusal   a fault's number and values, by case; its layer is the sheet
-use Rattle.std.specs.Prelude.{◌≡◌, ℕ, ◌+◌, ◌-◌, ◌*◌, ◌<◌, ◌≤◌, Bool, cond, ◌||◌, List, [], ◌∷◌, ◌++◌, length, take, drop, Some, None, Ok, Err, Option, Result, ◌==◌, ◌≢◌, nat_lt, slice_index, slice_range}
+use Rattle.std.specs.Prelude.{◌≡◌, ℕ, ◌+◌, ◌*◌, ◌<◌, ◌≤◌, cond, ◌||◌, List, [], ◌∷◌, ◌++◌, length, take, drop, Some, None, Ok, Err, Option, Result, ◌==◌, ◌≢◌, nat_lt, slice_index, slice_range}
 use Rattle.std.specs.List.{prefix_len}
 use Rattle.book.specs.Outcome.{Layer, chain, sheet, Outcome, refuses}
 use Rattle.sheet.specs.Commands.{longest_sheet, note_length, last_rule, Meaning, post, amend, strike, clear, note, list, divide, meaning, bytes, printable, Fit}

@@ -13,7 +13,6 @@ use Rattle.std.specs.Prelude.{◌≡◌, ℕ, ◌+◌, ◌-◌, ◌^◌, ◌<◌
 use Rattle.book.specs.Outcome.{Layer, book, chain, sheet, Outcome, answers, refuses, stop, stopped}
 use Rattle.book.specs.Tally.{Tally, outcome, after}
 use Rattle.book.specs.Totals.{balance_stops}
-use Rattle.book.specs.declared.entries.Call.{Call}
 use Rattle.book.specs.declared.entries.Call.TheVariants.{Post, Amend, Strike, Clear}
 use Rattle.flow.specs.Dividing.{Dividing}
 use Rattle.flow.specs.Excess.{figure}

@@ -1,7 +1,7 @@
 -- What a step of a statement does. Assumes nothing.
 --   state     a statement's state
 --   Stepped   the outcome of a step, with the statement and the page after it
-use Rattle.std.specs.Prelude.{◌≡◌, ℕ, ◌≤◌, List, [], ◌∷◌, ◌++◌, map, length, Some, None, Ok, Err, Option, Result, nat_lt}
+use Rattle.std.specs.Prelude.{◌≡◌, ℕ, ◌≤◌, List, [], ◌∷◌, map, length, Some, None, Ok, Err, Option, Result, nat_lt}
 use Rattle.book.specs.Lines.{lines}
 use Rattle.book.specs.Outcome.{sheet, Outcome, answers, refuses, stop, stopped}
 use Rattle.book.specs.Overlay.{over}
@@ -10,7 +10,7 @@ use Rattle.book.specs.Totals.{balance_stops}
 use Rattle.dividing.specs.Tables.{table_stops, written}
 use Rattle.flow.specs.Dividing.{Dividing}
 use Rattle.flow.specs.Splits.{Row}
-use Rattle.sheet.specs.Commands.{Meaning, post, amend, strike, clear, note, list, divide}
+use Rattle.sheet.specs.Commands.{post, amend, strike, clear, note, list, divide}
 use Rattle.sheet.specs.LastChains.{chain_of}
 use Rattle.sheet.specs.Reading.{Reading, end, read, refused, reading, refusal}
 use Rattle.sheet.specs.Statements.{State, shortest_page, rule_of, Prints, Over, Rest}

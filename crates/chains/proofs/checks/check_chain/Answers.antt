@@ -1,4 +1,4 @@
-use Rattle.std.proofs.Common.{length, None, sym, ◌∙◌}
+use Rattle.std.proofs.Common.{None, ◌∙◌}
 use Rattle.std.proofs.lemmas.Result.{err_from_is_err_and, IfOk-from_err, IfOk-weaker}
 use Rattle.book.specs.Lines.{lines}
 use Rattle.book.specs.Outcome.{stopped}

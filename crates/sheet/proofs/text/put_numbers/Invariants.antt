@@ -1,4 +1,4 @@
-use Rattle.std.proofs.Common.{◌≡◌, ◌+◌, ◌*◌, ◌≤◌, length, take}
+use Rattle.std.proofs.Common.{◌+◌, ◌*◌, ◌≤◌, take}
 use Rattle.sheet.specs.Page.{Put}
 use Rattle.sheet.specs.Statements.{numbers_text}
 use Rattle.sheet.proofs.text.put_numbers.Given as goal

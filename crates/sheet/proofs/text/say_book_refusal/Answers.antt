@@ -1,6 +1,5 @@
-use Rattle.std.proofs.Common.{◌++◌, codes, sym, subst, arith}
+use Rattle.std.proofs.Common.{◌++◌, codes, subst, arith}
 use Rattle.book.specs.Faults.{number, carries}
-use Rattle.std.proofs.lemmas.List.{length-append}
 use Rattle.sheet.specs.Page.{Put}
 use Rattle.sheet.specs.Statements.{text_line, detail, refusal_head}
 use Rattle.sheet.proofs.Laid.{put_then}

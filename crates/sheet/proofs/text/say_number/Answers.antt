@@ -1,4 +1,4 @@
-use Rattle.std.proofs.Common.{◌^◌, ◌<◌, decimal, arith}
+use Rattle.std.proofs.Common.{decimal, arith}
 use Rattle.sheet.proofs.Laid.{put_then}
 use Rattle.std.proofs.lemmas.List.{length-append}
 use Rattle.sheet.proofs.text.say_number.Goals as goal

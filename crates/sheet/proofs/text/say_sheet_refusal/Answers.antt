@@ -1,8 +1,8 @@
-use Rattle.std.proofs.Common.{[], ◌++◌, codes, sym, ap, ◌∙◌, subst, arith}
-use Rattle.sheet.specs.Reading.{number, carries}
+use Rattle.std.proofs.Common.{◌++◌, codes, sym, ap, ◌∙◌, subst, arith}
+use Rattle.sheet.specs.Reading.{number}
 use Rattle.std.proofs.lemmas.List.{append-nil}
 use Rattle.sheet.specs.Page.{Put}
-use Rattle.sheet.specs.Statements.{text_line, detail, refusal_head}
+use Rattle.sheet.specs.Statements.{text_line, refusal_head}
 use Rattle.sheet.proofs.Laid.{put_then}
 use Rattle.sheet.proofs.Refusals.{no_sheet_detail}
 use Rattle.sheet.proofs.text.say_sheet_refusal.Goals as goal

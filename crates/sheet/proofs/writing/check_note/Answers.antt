@@ -1,4 +1,4 @@
-use Rattle.std.proofs.Common.{eqb, length, sym, refl, ap, ◌∙◌, arith}
+use Rattle.std.proofs.Common.{eqb, length, sym, ◌∙◌, arith}
 use Rattle.std.proofs.lemmas.Bool.{cond-false, le-ltb, eq-eqb, not_from_true}
 use Rattle.sheet.specs.Reading.{clean}
 use Rattle.sheet.proofs.Codec.{all_clean}

@@ -1,6 +1,6 @@
-use Rattle.std.proofs.Common.{◌≡◌, ℕ, ◌+◌, ◌<◌, ◌≤◌, length, get_or, sym, ap, ◌∙◌, subst, arith}
+use Rattle.std.proofs.Common.{ℕ, ◌+◌, ◌<◌, ◌≤◌, length, get_or, sym, ap, ◌∙◌, subst, arith}
 use Rattle.std.proofs.lemmas.List.{length-set}
-use Rattle.book.specs.Limits.{most_lines, highest_account, greatest_amount}
+use Rattle.book.specs.Limits.{highest_account, greatest_amount}
 use Rattle.book.proofs.Records.{length-lines, kept_more, lines-append}
 use Rattle.book.specs.Records.{blank}
 use Rattle.book.specs.declared.table.Record.{Record}

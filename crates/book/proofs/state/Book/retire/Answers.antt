@@ -1,4 +1,4 @@
-use Rattle.std.proofs.Common.{sym, ap, ◌∙◌, arith}
+use Rattle.std.proofs.Common.{arith}
 use Rattle.book.proofs.Records.{length-lines, lines-set}
 use Rattle.book.proofs.state.Book.retire.Goals as goal
 

@@ -1,10 +1,10 @@
-use Rattle.std.proofs.Common.{◌≡◌, ◌<◌, ◌||◌, ltb, [], ◌++◌, length, get_or, codes, sym, refl, ap, ◌∙◌, subst, inl, arith}
+use Rattle.std.proofs.Common.{◌≡◌, ◌<◌, ◌||◌, ltb, [], length, get_or, codes, sym, refl, ap, ◌∙◌, subst, inl, arith}
 use Rattle.std.proofs.lemmas.Bool.{cond-false, or_from, le-ltb}
 use Rattle.std.specs.List.{AllByRecursion}
 use Rattle.book.proofs.Balance.{well_formed}
 use Rattle.book.specs.Limits.{most_lines}
 use Rattle.book.specs.Lines.{lines}
-use Rattle.book.specs.Outcome.{Outcome, answers, stopped}
+use Rattle.book.specs.Outcome.{answers, stopped}
 use Rattle.book.specs.Totals.{balance_stops}
 use Rattle.sheet.specs.Rows.{row_in}
 use Rattle.sheet.specs.Statements.{Divides, rule_of, row_of, text_line, chain_text}

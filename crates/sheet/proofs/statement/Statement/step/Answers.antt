@@ -1,10 +1,8 @@
-use Rattle.std.proofs.Common.{◌≡◌, length, sym, refl, ◌∙◌, subst, arith, rules}
-use Rattle.std.proofs.lemmas.Bool.{cond-false, or_from, le-ltb}
+use Rattle.std.proofs.Common.{◌≡◌, length, refl, subst, arith, rules}
 use Rattle.book.specs.Lines.{lines}
-use Rattle.book.specs.Outcome.{Outcome}
 use Rattle.sheet.specs.Commands.{meaning}
 use Rattle.sheet.specs.Reading.{read, reading, number, carries}
-use Rattle.sheet.specs.Stepping.{state, step_stopped, Touched}
+use Rattle.sheet.specs.Stepping.{state, Touched}
 use Rattle.sheet.proofs.Printing.{printed, passes, prints_command, prints_refusal}
 use Rattle.sheet.proofs.statement.Statement.step.Goals as goal
 
