@@ -1,9 +1,9 @@
 -- The records of a book's inner table. Assumes nothing.
---   blank      a record that holds no line
---   revalued   a record given another amount
---   retired    a record of a line that is struck
---   line_of     the line that a record stands for
---   account_of  the account that it enters or leaves
+--   blank        a record that holds no line
+--   revalued     a record given another amount
+--   retired      a record of a line that is struck
+--   line_of      the line that a record stands for
+--   account_of   the account that it enters or leaves
 use Rattle.std.specs.Prelude.{ℕ, false, cond}
 use Rattle.book.specs.declared.entries.Line.{Line}
 use Rattle.book.specs.declared.entries.Line.TheVariants.{Live, Struck}

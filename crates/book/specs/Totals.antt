@@ -1,12 +1,12 @@
 -- Totals and balance of a tally. Assumes nothing.
---   total            the sum of a figure over all lines
---   in_total          the sum of the live lines entering an account
---   out_total         the sum of the live lines leaving it
---   Enters, Leaves   some live line enters it, or leaves it
---   figure, side_total  what a line adds to one of the two totals of an account, and that total
---   Balanced         both totals agree at every account with live lines on both sides
---   balance_stops     the stop of every question about a book that is not balanced
---   Differs          an account with live lines on both sides whose totals do not agree
+--   total                the sum of a figure over all lines
+--   in_total             the sum of the live lines entering an account
+--   out_total            the sum of the live lines leaving it
+--   Enters, Leaves       some live line enters it, or leaves it
+--   figure, side_total   what a line adds to one of the two totals of an account, and that total
+--   Balanced             both totals agree at every account with live lines on both sides
+--   balance_stops        the stop of every question about a book that is not balanced
+--   Differs              an account with live lines on both sides whose totals do not agree
 use Rattle.std.specs.Prelude.{◌≡◌, ℕ, ◌+◌, ◌<◌, Bool, true, false, cond, not, ◌&&◌, ◌||◌, ◌≢◌, List, [], ◌∷◌, Ok, Err, Result, ◌==◌, slice_index}
 use Rattle.book.specs.Limits.{accounts}
 use Rattle.book.specs.Faults.{refusal}

@@ -1,6 +1,6 @@
 -- What certain answers. Assumes nothing.
 --   by_excess   held with the excess when that is 1 or more, else loose with the tonnes by which it lies below zero
---   Agreed     every split puts at least the certain figure on the chain, and some split puts exactly that
+--   Agreed      every split puts at least the certain figure on the chain, and some split puts exactly that
 use Rattle.std.specs.Prelude.{◌≡◌, ℕ, zero, suc, List, ℤ, pos, negsuc}
 use Rattle.book.specs.Tally.{Tally}
 use Rattle.flow.specs.Excess.{figure}

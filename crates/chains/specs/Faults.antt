@@ -1,7 +1,7 @@
 -- The layer, number and values of each refusal of a question about chains, by case. Assumes nothing.
 --   layer_of, number, carries   a fault's layer, its number and the values that it carries
---   refusal                    a fault as an outcome
---   checked                    a check as what it does to the outcome that would follow
+--   refusal   a fault as an outcome
+--   checked   a check as what it does to the outcome that would follow
 use Rattle.std.specs.Prelude.{ℕ, List, [], ◌∷◌, Ok, Err, Result}
 use Rattle.book.specs.Faults.{number as book_number, carries as book_carries}
 use Rattle.book.specs.Outcome.{Layer, book, chain, Outcome, refuses}

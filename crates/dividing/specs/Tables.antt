@@ -1,10 +1,10 @@
 -- The tables that rows are written into. Assumes nothing.
---   row_stride      row i stands at entry row_stride × i
---   table_entries   the table of rows needs so many entries
---   table_tonnes    the table of tonnes needs so many
---   written        a table with rows written into it, from row i on: at each row's entry its length, then its lines
---   table_stops     the stop of tables too small
---   divide_stopped  the stops of dividing, read one after the other: the tables, then the balance
+--   row_stride       row i stands at entry row_stride × i
+--   table_entries    the table of rows needs so many entries
+--   table_tonnes     the table of tonnes needs so many
+--   written          a table with rows written into it, from row i on: at each row's entry its length, then its lines
+--   table_stops      the stop of tables too small
+--   divide_stopped   the stops of dividing, read one after the other: the tables, then the balance
 --   counter_stopped those of counter: the tables, then the chain and the balance
 use Rattle.std.specs.Prelude.{ℕ, ◌+◌, ◌*◌, ◌||◌, List, [], ◌∷◌, length, nat_lt}
 use Rattle.book.specs.Outcome.{chain, Outcome, Stop, stop, stopped}

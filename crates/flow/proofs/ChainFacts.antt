@@ -1,6 +1,6 @@
 -- Facts on live lines, runs and chains: what a line's ends say, parts of chains, and accounts that rise along them. Assumes nothing.
 --   leaves_by, enters_by   whether the line of a number leaves an account, or enters it
---   is_origin             the test for an origin
+--   is_origin              the test for an origin
 use Rattle.std.proofs.Common.{◌≡◌, ℕ, zero, suc, ◌+◌, ◌<◌, ◌≤◌, Bool, true, false, not, ◌&&◌, ◌||◌, eqb, leb, List, [], ◌∷◌, ◌++◌, length, Decides, sym, refl, ap, ◌∙◌, subst, arith}
 use Rattle.std.proofs.ByRecursion.{all-has, All-weaker, has_push}
 use Rattle.std.proofs.lemmas.Bool.{and_parts, and_from, or_from, both_ways, eqb-true, eq-eqb, ne_eqb, leb-true, le-leb, not-true, not_from_false}

@@ -1,6 +1,6 @@
 -- A test of lists of greatest certain chains that computes, and what it shows. Assumes nothing.
 --   every_run, every_chain   all runs from an account, or all chains of a book, pass a test
---   is_listing              the test for the list at a floor
+--   is_listing   the test for the list at a floor
 use Rattle.std.proofs.Common.{◌≡◌, ℕ, zero, suc, ◌<◌, ◌≤◌, Bool, true, false, cond, not, ◌&&◌, ◌||◌, List, [], ◌∷◌, length, sym, refl, ◌∙◌, subst, ⊎_elim, arith}
 use Rattle.std.proofs.ByRecursion.{has_get_or, has_append_right}
 use Rattle.std.proofs.lemmas.Bool.{and_parts, or_cases, not-true, both_ways, cond-true}

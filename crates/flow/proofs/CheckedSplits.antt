@@ -1,5 +1,5 @@
 -- A test of splits that computes, and what it shows. Assumes nothing.
---   every             each element of a list passes a test
+--   every               each element of a list passes a test
 --   is_full, is_split   the tests for a full chain and for a split
 use Rattle.std.proofs.Common.{◌≡◌, ℕ, ◌<◌, Bool, true, not, ◌&&◌, ◌||◌, eqb, ltb, List, [], ◌∷◌, length, ⊎_elim}
 use Rattle.std.proofs.lemmas.Bool.{and_parts, or_cases, not-true, both_ways, ltb-true, eqb-true}

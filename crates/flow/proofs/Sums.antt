@@ -1,5 +1,5 @@
 -- Sums over lists, and tests that some element, at most one, or every number below another passes. Assumes nothing.
---   Once         at most one element of a list passes a test
+--   Once          at most one element of a list passes a test
 --   every_below   every number below one passes a test
 use Rattle.std.proofs.Common.{◌≡◌, ℕ, zero, suc, ◌+◌, ◌<◌, ◌≤◌, Bool, true, false, ◌&&◌, ◌⊎◌, List, [], ◌∷◌, length, get_or, set, Decides, sym, refl, subst, inl, inr, ⊎_elim, arith}
 use Rattle.std.proofs.lemmas.Bool.{cases_Bool, cases_eq, or_from, or_left, or_right, both_ways}

@@ -1,7 +1,7 @@
 -- The tonnes left on each line: sums of them over the lines of a tally, the least along lines, and what is left after a row. Assumes nothing.
---   weigh      the tonnes on those lines that pass a test
---   open_count  on how many lines there are tonnes
---   Bears      a number of the list with so many tonnes or more
+--   weigh        the tonnes on those lines that pass a test
+--   open_count   on how many lines there are tonnes
+--   Bears        a number of the list with so many tonnes or more
 use Rattle.std.proofs.Common.{◌≡◌, ℕ, zero, suc, ◌+◌, ◌-◌, ◌<◌, ◌≤◌, min, Bool, true, false, cond, ◌||◌, eqb, ◌⊎◌, List, [], ◌∷◌, ◌++◌, map, length, get_or, set, replicate, count_by, refl, ap, ◌∙◌, inl, inr, ⊎_elim, arith}
 use Rattle.std.specs.List.{AllByRecursion}
 use Rattle.std.proofs.lemmas.List.{length-set, get_or-set_same, get_or-set_other}

@@ -1,8 +1,8 @@
 -- Chains of lines. Assumes nothing.
---   longest_chain      a chain has at most so many lines
---   from_of, to_of      the account that a live line leaves, and the one that it enters
+--   longest_chain     a chain has at most so many lines
+--   from_of, to_of    the account that a live line leaves, and the one that it enters
 --   runs              live lines that run on from an account: each leaves the account that the one before enters
---   is_chain, Chain    1 to 63 live lines, each leaving the account that the line before it enters
+--   is_chain, Chain   1 to 63 live lines, each leaving the account that the line before it enters
 --   start, finish     the account that a chain leaves, and the one that it enters at last
 --   Origin, Ending    an account that live lines only leave, and one that they only enter
 --   Full              a chain from an origin to an end account

@@ -1,11 +1,11 @@
 -- Dividing a book under a rule, as a relation between the book and the rows. Assumes nothing.
---   amounts    the tonnes on each of the 256 lines: a live line's amount, else 0
---   Walk       the lines followed under a rule from an account to an end account
---   least_left  the least tonnes left along a walk
---   IsRow      the next row: the walk from the lowest origin with tonnes left on a line out, with the least left along it
---   off        the tonnes left after a row is taken off its lines
---   Divides    the rows from given tonnes left until nothing is left
---   Dividing   the rows of a book under a rule
+--   amounts      the tonnes on each of the 256 lines: a live line's amount, else 0
+--   Walk         the lines followed under a rule from an account to an end account
+--   least_left   the least tonnes left along a walk
+--   IsRow        the next row: the walk from the lowest origin with tonnes left on a line out, with the least left along it
+--   off          the tonnes left after a row is taken off its lines
+--   Divides      the rows from given tonnes left until nothing is left
+--   Dividing     the rows of a book under a rule
 use Rattle.std.specs.Prelude.{◌≡◌, ℕ, ◌-◌, ◌<◌, min, false, List, [], ◌∷◌, ◌++◌, map, length, replicate, slice_index, slice_set}
 use Rattle.book.specs.Limits.{most_lines}
 use Rattle.book.specs.Tally.{Tally, at}

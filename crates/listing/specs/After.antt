@@ -3,7 +3,7 @@
 --   NoCertain      no certain chain stands after a list
 --   Barren         none that begins as the list does, so far
 --   Open           a beginning to branch off from: it is certain, and no chain that keeps one number more is left
---   lowest_after    the lowest number to branch off with, behind a beginning
+--   lowest_after   the lowest number to branch off with, behind a beginning
 use Rattle.std.specs.Prelude.{ℕ, ◌+◌, ◌<◌, ◌≤◌, cond, List, ◌++◌, length, take, nat_lt, slice_index}
 use Rattle.book.specs.Tally.{Tally}
 use Rattle.flow.specs.Listing.{Before}

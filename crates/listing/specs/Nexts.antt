@@ -1,8 +1,8 @@
 -- What next answers. Assumes nothing.
 --   row_entries    a row needs so many entries
 --   next_stopped   the stops of next, read one after the other: the floor, the row, the length, the balance
---   Answered      found: the first greatest certain chain after the given list stands at the start of the row, with its length and figure;
---                 done: none stands after it, and the row is as it was; a refusal leaves the row
+--   Answered       found: the first greatest certain chain after the given list stands at the start of the row, with its length and figure;
+--                  done: none stands after it, and the row is as it was; a refusal leaves the row
 use Rattle.std.specs.Prelude.{◌≡◌, ℕ, List, [], ◌∷◌, length, take, Ok, Err, Result, ◌==◌, nat_lt}
 use Rattle.book.specs.Outcome.{chain, Outcome, stop, stopped}
 use Rattle.book.specs.Overlay.{over}

@@ -1,6 +1,6 @@
 -- What the search for the next greatest certain chain answers. Assumes nothing.
 --   request_stops   the stops of next that need no book
---   Picked         the first greatest certain chain after a list, with its figure; or there is none
+--   Picked          the first greatest certain chain after a list, with its figure; or there is none
 use Rattle.std.specs.Prelude.{◌≡◌, ℕ, List, [], ◌∷◌, Some, None, Option, ◌==◌, nat_lt}
 use Rattle.book.specs.Outcome.{chain, Stop, stop}
 use Rattle.book.specs.Tally.{Tally}

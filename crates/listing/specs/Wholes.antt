@@ -1,6 +1,6 @@
 -- A list read to its end. Assumes nothing.
---   Put           a chain put behind others with its figure
---   Whole         all the greatest certain chains of a tally at a floor and no other, in ascending order, each once, with its certain figure
+--   Put            a chain put behind others with its figure
+--   Whole          all the greatest certain chains of a tally at a floor and no other, in ascending order, each once, with its certain figure
 --   list_checked   a list's reading as what it does to the outcome that would follow: only a refusal of next stops it
 use Rattle.std.specs.Prelude.{◌≡◌, ℕ, List, [], ◌∷◌, ◌++◌, map, Ok, Err, vec_items, Result}
 use Rattle.std.specs.List.{AllByRecursion}

@@ -1,14 +1,14 @@
 -- What is promised of the tally of every list of calls. Assumes nothing.
---   SomeSplit     the tally has a split
+--   SomeSplit      the tally has a split
 --   Refused        refused whatever the outcome would be: with the lowest account that differs and both of its totals
 --   Asks           a question by its stops: where none before the last is met, it is refused exactly when the tally has no split
---   chain_before    the stops of a chain before the balance
+--   chain_before   the stops of a chain before the balance
 --   Questions      every question about a book is such a question
 --   Counter        a split against a chain: the dividing that avoids it puts just the certain figure on it
 --   Told           what certain answers: held with the certain figure, or loose where that is 0
 --   Countered      what is promised of a chain of a balanced book
---   ListAgreed    the list at a floor, and what all splits agree on for each of its chains
---   KeptPromise   the whole promise
+--   ListAgreed     the list at a floor, and what all splits agree on for each of its chains
+--   KeptPromise    the whole promise
 use Rattle.std.specs.Prelude.{◌≡◌, ℕ, ◌<◌, List, [], ◌∷◌, length, None}
 use Rattle.std.specs.List.{ContainsAt}
 use Rattle.book.specs.Outcome.{book, Outcome, refuses, stopped}

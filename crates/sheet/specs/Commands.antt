@@ -1,12 +1,12 @@
 -- A command's meaning and its bytes. Assumes nothing.
 --   longest_sheet, note_length   the most bytes of a sheet, and the bytes of a note's text
---   Meaning                    a command as a plain value
---   meaning                    what a command of the code stands for
---   big2, big4                 a number in two and in four bytes, the highest first
---   bytes                      a command's bytes
---   printable                  whether a byte can stand in a note
---   Printable                  a text of 16 such bytes
---   Fit                        operands within their widths, and a note of 16 such bytes
+--   Meaning      a command as a plain value
+--   meaning      what a command of the code stands for
+--   big2, big4   a number in two and in four bytes, the highest first
+--   bytes        a command's bytes
+--   printable    whether a byte can stand in a note
+--   Printable    a text of 16 such bytes
+--   Fit          operands within their widths, and a note of 16 such bytes
 use Rattle.std.specs.Prelude.{◌≡◌, ℕ, ◌/◌, ◌%◌, ◌^◌, ◌<◌, ◌≤◌, Bool, true, ◌&&◌, List, [], ◌∷◌, ◌++◌, length, nat_le}
 use Rattle.std.specs.List.{AllByRecursion}
 use Rattle.sheet.specs.declared.command.Command.{Command}

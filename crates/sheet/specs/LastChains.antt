@@ -1,7 +1,7 @@
 -- The last chain listed. Assumes nothing.
 --   chain_of   the chain that is held
---   Moved     one chain further in a list: the first greatest certain chain after the one held is held, and its figure told;
---             or there is none and what was held stays, as after a refusal
+--   Moved      one chain further in a list: the first greatest certain chain after the one held is held, and its figure told;
+--              or there is none and what was held stays, as after a refusal
 use Rattle.std.specs.Prelude.{◌≡◌, ℕ, List, take, Some, None, Ok, Err, Option, Result}
 use Rattle.book.specs.Tally.{Tally}
 use Rattle.chains.specs.declared.faults.Fault.{Fault}

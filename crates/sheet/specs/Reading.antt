@@ -1,10 +1,10 @@
 -- What reading a sheet at a place gives. Assumes nothing.
---   Reading     the end of the sheet, a command with the place after it, or a refusal: number and what it carries
+--   Reading          the end of the sheet, a command with the place after it, or a refusal: number and what it carries
 --   value2, value4   the number that two and four bytes stand for, the highest first
---   command     what bytes that begin at a place are read as
---   reading     what a sheet is read as at a place
---   Spelled     what is read stands in the sheet, byte by byte
---   ReadsBack  a command's bytes are read as that command
+--   command          what bytes that begin at a place are read as
+--   reading          what a sheet is read as at a place
+--   Spelled          what is read stands in the sheet, byte by byte
+--   ReadsBack        a command's bytes are read as that command
 --   number, carries, refusal   a fault's number and values, by case; its layer is the sheet
 use Rattle.std.specs.Prelude.{◌≡◌, ℕ, ◌+◌, ◌*◌, ◌<◌, ◌≤◌, cond, ◌||◌, List, [], ◌∷◌, ◌++◌, length, take, drop, Some, None, Ok, Err, Option, Result, ◌==◌, ◌≢◌, nat_lt, slice_index, slice_range}
 use Rattle.std.specs.List.{prefix_len}

@@ -1,7 +1,7 @@
 -- What a run of a statement's steps leaves. Assumes nothing.
 --   line_bytes   the bytes of lines, one after the other
---   Added       one step's line is added to the output, or the statement is over
---   Ran         a run of at most so many steps: the lines printed are added to the output
+--   Added        one step's line is added to the output, or the statement is over
+--   Ran          a run of at most so many steps: the lines printed are added to the output
 use Rattle.std.specs.Prelude.{◌≡◌, ℕ, ◌<◌, Bool, true, false, List, ◌++◌, length, Ok, Err, Result}
 use Rattle.sheet.specs.Statements.{State, Prints, Over, Steps, Rest}
 use Rattle.std.specs.declared.alloc.AllocError.{AllocError}

@@ -1,14 +1,14 @@
 -- The statement of a sheet, over its commands and the tally. Assumes nothing.
 --   shortest_page   a page needs so many bytes
---   State          a sheet, the place read up to, the tally of its calls so far, whether the statement has ended; and of a list or divide
---                  command that is being printed, how many of its lines are printed and the last chain listed
---   Obeyed         what a command prints on a book with those lines, and the state after it
+--   State           a sheet, the place read up to, the tally of its calls so far, whether the statement has ended; and of a list or divide
+--                   command that is being printed, how many of its lines are printed and the last chain listed
+--   Obeyed          what a command prints on a book with those lines, and the state after it
 --   refusal_text    what a refused command prints
---   Prints         a statement in one state prints a line and is in another
---   Over           a statement in that state prints no more
---   Steps          the lines that are printed from one state to another
---   Rest           the lines that are printed from a state to the end
---   StatementOf   the lines of a whole sheet's statement
+--   Prints          a statement in one state prints a line and is in another
+--   Over            a statement in that state prints no more
+--   Steps           the lines that are printed from one state to another
+--   Rest            the lines that are printed from a state to the end
+--   StatementOf     the lines of a whole sheet's statement
 use Rattle.std.specs.Prelude.{◌≡◌, ℕ, ◌+◌, ◌-◌, ◌^◌, ◌<◌, ◌≤◌, min, Bool, true, false, cond, ◌||◌, ◌⊎◌, List, [], ◌∷◌, ◌++◌, length, codes, decimal, ◌==◌, slice_index, slice_index_or}
 use Rattle.book.specs.Outcome.{Layer, book, chain, sheet, Outcome, answers, refuses, stop, stopped}
 use Rattle.book.specs.Tally.{Tally, outcome, after}

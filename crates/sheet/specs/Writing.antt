@@ -1,9 +1,9 @@
 -- What writing a command into a buffer gives. Assumes nothing.
 --   longest_command   no command has more bytes, and every buffer needs so many
 --   operand_stops, room_stops   the stops of writing, in their order: of the operands, then of the buffer's length
---   writing          the outcome: the count of the command's bytes, or a refusal
---   written          the code's answer as an outcome
---   checked          a check as what it does to the outcome that would follow
+--   writing           the outcome: the count of the command's bytes, or a refusal
+--   written           the code's answer as an outcome
+--   checked           a check as what it does to the outcome that would follow
 use Rattle.std.specs.Prelude.{ℕ, min, not, List, [], ◌∷◌, length, Ok, Err, Result, ◌==◌, nat_lt}
 use Rattle.book.specs.Outcome.{sheet, Outcome, answers, Stop, stop, stopped}
 use Rattle.sheet.specs.Commands.{note_length, last_rule, Meaning, post, amend, strike, clear, note, list, divide, bytes}
