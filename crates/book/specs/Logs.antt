@@ -1,5 +1,6 @@
 -- What a run of the calls of a log on a clean book leaves. Assumes nothing.
 --   calls_of     the calls of a log
+--   outcome_of   an answer as an outcome, if there is one
 --   reported     what a log has of each call: nothing yet, or its outcome
 --   Entered      an entry keeps its call and has the outcome that a tally gives for it
 --   TalliedLog   the log keeps its calls and has of each the outcome that the tally of the calls gives; the lines at the end

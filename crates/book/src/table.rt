@@ -1,5 +1,5 @@
 // The inner table of a book: plain records, and no promise about them.
-ghost use Rattle.std.specs.Prelude.{◌≡◌, ◌<◌, length, set, slice_index_or, slice_set};
+ghost use Rattle.std.specs.Prelude.{◌≡◌, ◌<◌, length, slice_index_or, slice_set};
 ghost use Rattle.book.specs.Limits.{most_lines};
 ghost use Rattle.book.specs.Records.{blank, revalued, retired, line_of, account_of};
 
@@ -57,7 +57,7 @@ impl Table {
     pub fn put(&mut self, at: usize, record: Record)
         requires whole { length self.old.records ≡ most_lines }
         requires within { at < most_lines }
-        ensures { self.new.records ≡ set self.old.records at «record» }
+        ensures { self.new.records ≡ slice_set self.old.records at «record» }
     {
         self.records[at] = record;
     }

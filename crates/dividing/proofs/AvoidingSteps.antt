@@ -16,8 +16,8 @@ module _ (t : Tally) (a : ℕ) (c : List ℕ) (i : ℕ) (h : i < length c) where
   pub runs_more : leaves a (at t (get_or c i 0)) ≡ true → runs t a (drop i c) ≡ runs t (to_of (at t (get_or c i 0))) (drop (i + 1) c)
   runs_more out = at_drop_more (runs t a) c i 0 h ∙ ap (λ b. b && runs t (to_of (at t (get_or c i 0))) (drop (i + 1) c)) out
 
-  pub runs-stop : leaves a (at t (get_or c i 0)) ≡ false → runs t a (drop i c) ≡ false
-  runs-stop out = at_drop_more (runs t a) c i 0 h ∙ and_left (leaves a (at t (get_or c i 0))) (runs t (to_of (at t (get_or c i 0))) (drop (i + 1) c)) out
+  pub runs_stop : leaves a (at t (get_or c i 0)) ≡ false → runs t a (drop i c) ≡ false
+  runs_stop out = at_drop_more (runs t a) c i 0 h ∙ and_left (leaves a (at t (get_or c i 0))) (runs t (to_of (at t (get_or c i 0))) (drop (i + 1) c)) out
 
 -- the chain from a place on
 module _ (t : Tally) (left : List ℕ) (a : ℕ) (walked : List ℕ) where
@@ -52,14 +52,14 @@ module _ (t : Tally) (left : List ℕ) (a : ℕ) (walked : List ℕ) where
 
   -- at the account that a line of the chain leaves
   module _ (front : List ℕ) (n : ℕ) where
-    pub turn-other : ends_with walked front ≡ true → lowest_of (λ m. is_open t left a m && not (eqb m n)) n 0 (length t) ≡ turn front n t left a walked
-    turn-other after = sym (cond-true (ends_with walked front) _ _ after)
+    pub turn_other : ends_with walked front ≡ true → lowest_of (λ m. is_open t left a m && not (eqb m n)) n 0 (length t) ≡ turn front n t left a walked
+    turn_other after = sym (cond-true (ends_with walked front) _ _ after)
 
     pub turn_itself : ends_with walked front ≡ false → 0 < get_or left n 0 → n ≡ turn front n t left a walked
     turn_itself elsewhere some = sym (cond-false (ends_with walked front) _ _ elsewhere ∙ cond-true (ltb 0 (get_or left n 0)) _ _ (lt-ltb 0 (get_or left n 0) some))
 
-    pub turn-lowest : ends_with walked front ≡ false → get_or left n 0 ≡ 0 → lowest t left a walked ≡ turn front n t left a walked
-    turn-lowest elsewhere none = sym (cond-false (ends_with walked front) _ _ elsewhere ∙ cond-false (ltb 0 (get_or left n 0)) _ _ (le-ltb 0 (get_or left n 0) (omega arith)))
+    pub turn_lowest : ends_with walked front ≡ false → get_or left n 0 ≡ 0 → lowest t left a walked ≡ turn front n t left a walked
+    turn_lowest elsewhere none = sym (cond-false (ends_with walked front) _ _ elsewhere ∙ cond-false (ltb 0 (get_or left n 0)) _ _ (le-ltb 0 (get_or left n 0) (omega arith)))
 
 pub ends_is : (walked front : List ℕ) (r : Bool) → r ≡ pointwise eqb front (drop (length walked - length front) walked) → ends_with walked front ≡ r
 ends_is walked front r matches =

@@ -2,6 +2,7 @@ pub mod OpenLines
 pub mod Widening
 pub mod Amounts
 pub mod Sourcing
+pub mod Following
 pub mod Walking
 pub mod Rowing
 pub mod Tabled

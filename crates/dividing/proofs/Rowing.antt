@@ -51,8 +51,8 @@ module _ (choice : Choice) (t : Tally) (left : List ℕ) (start : ℕ) (before :
         ap (λ l. take (count + 1 - 1) (drop 1 l)) row_table
         ∙ take_at walked.lines (drop (length (length walked.lines ∷ walked.lines)) before) (count + 1 - 1) (omega (arith, walked.counted))
 
-    pub row_put : (left_After : List ℕ) → left_After ≡ off left least (take (count + 1 - 1) (drop 1 (set after 0 count))) → RowPut choice t left 0 before least left_After (set after 0 count)
-    row_put left_After taken =
+    pub row_put : (left_after : List ℕ) → left_after ≡ off left least (take (count + 1 - 1) (drop 1 (set after 0 count))) → RowPut choice t left 0 before least left_after (set after 0 count)
+    row_put left_after taken =
         let new = length walked.lines ∷ walked.lines in
         let none : length new ≡ 0 + length new = omega arith in
         record {

@@ -45,8 +45,8 @@ laid_part table new at k fits short =
     (sym (drop-append-le (length new) (take k part) (drop k part) long)
     ∙ (ap (drop (length new)) (take-append-drop k part) ∙ drop-drop (length new) at table)))
 
-pub numbered_put : (choice : Choice) (t : Tally) (left rows : List ℕ) (at k v : ℕ) (left_After part-after : List ℕ) → k ≡ row_stride → at + row_stride ≤ length rows → RowPut choice t left 0 (take k (drop at rows)) v left_After part-after → RowPut choice t left at rows v left_After (put_mid at k rows part-after)
-numbered_put choice t left rows at k v left_After part-after is fits put =
+pub numbered_put : (choice : Choice) (t : Tally) (left rows : List ℕ) (at k v : ℕ) (left_after part_after : List ℕ) → k ≡ row_stride → at + row_stride ≤ length rows → RowPut choice t left 0 (take k (drop at rows)) v left_after part_after → RowPut choice t left at rows v left_after (put_mid at k rows part_after)
+numbered_put choice t left rows at k v left_after part_after is fits put =
     let new = length put.row.chain ∷ put.row.chain in
     let part = take k (drop at rows) in
     let none : 0 + length new ≡ length new = omega arith in
@@ -99,7 +99,7 @@ module _ (choice : Choice) (t : Tally) (well : WellFormed t) (rows_before tonnes
     filling_room n some = omega (arith, so.few, open_count_some left n some, count_by-le-length is_live t, well.0)
 
     -- one row more, written into its entries
-    module _ (left_After rows_after : List ℕ) (v : ℕ) (within : count < length tonnes) (put : RowPut choice t left (row_stride * count) rows v left_After rows_after) where
+    module _ (left_after rows_after : List ℕ) (v : ℕ) (within : count < length tonnes) (put : RowPut choice t left (row_stride * count) rows v left_after rows_after) where
       abbrev grown : List Row
       grown = so.done ++ put.row ∷ []
 
@@ -120,10 +120,10 @@ module _ (choice : Choice) (t : Tally) (well : WellFormed t) (rows_before tonnes
           ∙ (ap (λ l. laid l (row_stride * count) new) so.table
           ∙ (ap (λ k. laid (written rows_before 0 so.done) k new) place ∙ sym (written_push rows_before 0 so.done put.row)))
 
-      pub filling_lessens : open_count left_After < open_count left
+      pub filling_lessens : open_count left_after < open_count left
       filling_lessens = omega (arith, ap open_count put.taken_off, row_lessens choice t left put.row put.is_row)
 
-      pub filling_more : length rows_after ≡ length rows → Filling choice t rows_before tonnes_before left_After (count + 1) rows_after (set tonnes count v)
+      pub filling_more : length rows_after ≡ length rows → Filling choice t rows_before tonnes_before left_after (count + 1) rows_after (set tonnes count v)
       filling_more long = record {
         done = grown;
         goes = λ rest d. subst (Dividing choice t) (sym (append_assoc so.done (put.row ∷ []) rest)) (so.goes (put.row ∷ rest) (put.is_row, subst (λ l. Divides choice t l rest) put.taken_off d));

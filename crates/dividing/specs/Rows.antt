@@ -28,10 +28,10 @@ pub record Walked (choice : Choice) (t : Tally) (left : List ℕ) (start : ℕ) 
   pub least_left_is : least ≡ least_left left lines
   pub table : after ≡ laid before 1 lines
 
-pub record RowPut (choice : Choice) (t : Tally) (left : List ℕ) (at : ℕ) (before : List ℕ) (tonnes : ℕ) (left_After after : List ℕ) : Type 0 where
+pub record RowPut (choice : Choice) (t : Tally) (left : List ℕ) (at : ℕ) (before : List ℕ) (tonnes : ℕ) (left_after after : List ℕ) : Type 0 where
   pub row : Row
   pub is_row : IsRow choice t left row
   pub tonnes_so : tonnes ≡ row.tonnes
-  pub taken_off : left_After ≡ off left row.tonnes row.chain
+  pub taken_off : left_after ≡ off left row.tonnes row.chain
   pub short : length row.chain ≤ longest_chain
   pub table : after ≡ laid before at (length row.chain ∷ row.chain)

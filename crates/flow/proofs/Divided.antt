@@ -1,7 +1,7 @@
 -- Under every lawful rule a balanced book has exactly one dividing, and it is a split with at most one row for each live line. Assumes nothing.
---   of any row:       row-runs, row_open, row-bears, row-full, row-some, row-reaches, row-off, row-lessens, row-crossing
---   of any dividing:  divides-puts, divides-full, divides-some, divides-few, divides-alone
---   of fair tonnes:   fair-after, next_row, divides-from, fair-amounts
+--   of any row:       row_runs, row_open, row_bears, row_full, row_some, row_reaches, row_off, row_lessens, row_crossing
+--   of any dividing:  divides_puts, divides_full, divides_some, divides_few, divides_alone
+--   of fair tonnes:   fair_after, next_row, divides_from, fair_amounts
 use Rattle.std.proofs.Common.{◌≡◌, ℕ, zero, suc, ◌+◌, ◌-◌, ◌<◌, ◌≤◌, Bool, true, false, cond, ◌&&◌, ltb, List, [], ◌∷◌, map, length, get_or, replicate, sym, refl, ap, ◌∙◌, subst, ⊎_elim, arith}
 use Rattle.std.specs.List.{AllByRecursion}
 use Rattle.std.proofs.lemmas.List.{length-append, length-map, length-replicate}
@@ -90,9 +90,9 @@ module _ (choice : Choice) (t : Tally) (left : List ℕ) (row : Row) (is : IsRow
 
 -- any dividing
 module _ (choice : Choice) (t : Tally) where
-  pub divides-puts : (left : List ℕ) (rows : List Row) → Divides choice t left rows → (n : ℕ) → puts rows (n ∷ []) ≡ get_or left n 0
-  divides-puts left [] d n = sym (d n)
-  divides-puts left (row ∷ rows) d n = omega (arith, row_off choice t left row d.0 n, divides-puts (off left row.tonnes row.chain) rows d.1 n)
+  pub divides_puts : (left : List ℕ) (rows : List Row) → Divides choice t left rows → (n : ℕ) → puts rows (n ∷ []) ≡ get_or left n 0
+  divides_puts left [] d n = sym (d n)
+  divides_puts left (row ∷ rows) d n = omega (arith, row_off choice t left row d.0 n, divides_puts (off left row.tonnes row.chain) rows d.1 n)
 
   pub divides_full : WellFormed t → (left : List ℕ) (rows : List Row) → Divides choice t left rows → AllByRecursion (λ r. Full t r.chain) rows
   divides_full well left [] d = tt
@@ -211,7 +211,7 @@ pub dividing_split : (choice : Choice) (t : Tally) (rows : List Row) → WellFor
 dividing_split choice t rows well d = record {
   full = divides_full choice t well (amounts t) rows d;
   some = divides_some choice t (amounts t) rows d;
-  sums = λ n live. divides-puts choice t (amounts t) rows d n ∙ get_or-amounts t n;
+  sums = λ n live. divides_puts choice t (amounts t) rows d n ∙ get_or-amounts t n;
 }
 
 pub dividing_is_split : DividingIsSplit

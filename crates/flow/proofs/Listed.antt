@@ -1,8 +1,8 @@
 -- The greatest certain chains: each by one line more at either end, decided by the excess, and their complete list. Assumes nothing.
---   greatest-by-one-line a chain is greatest exactly when it is certain and no chain longer by one line is
---   certain_decided      whether a chain is certain, by its excess
---   greatest_decided     whether a list is a greatest certain chain
---   list_is_complete     the list of the greatest certain chains
+--   greatest_by_one_line   a chain is greatest exactly when it is certain and no chain longer by one line is
+--   certain_decided        whether a chain is certain, by its excess
+--   greatest_decided       whether a list is a greatest certain chain
+--   list_is_complete       the list of the greatest certain chains
 use Rattle.std.proofs.Common.{◌≡◌, ℕ, ◌<◌, Bool, true, false, not, ◌&&◌, List, [], ◌∷◌, ◌++◌, length, ℤ, pos, ◌≤ℤ◌, Decides, filter, sym, refl, ap, ◌∙◌, subst, inl, inr, ⊎_elim, arith}
 use lib.Signed.{le_z}
 use Rattle.std.proofs.ByRecursion.{all-has, All-weaker, kept_by_passes}
@@ -159,14 +159,14 @@ module _ (t : Tally) (w : ℕ) (well : WellFormed t) (balanced : Balanced t) (so
 
   pub greatest_decided : (c : List ℕ) → Decides (is_greatest t w c) (Greatest t w c)
   greatest_decided c =
-      let noLeft : Bool = none_certain t w (λ n. n ∷ c) in
-      let noRight : Bool = none_certain t w (λ n. c ++ n ∷ []) in
+      let no_left : Bool = none_certain t w (λ n. n ∷ c) in
+      let no_right : Bool = none_certain t w (λ n. c ++ n ∷ []) in
       let left = none_certain_decided (λ n. n ∷ c) (λ n chain. (chain_within t (n ∷ c) chain).0) in
       let right = none_certain_decided (λ n. c ++ n ∷ []) (λ n chain. last_within t c n chain) in
       Decides-like (is_greatest t w c)
       (λ h. alone_greatest t w c h.0.0 (record { certain = h.0.1; left = h.1.0; right = h.1.1 }))
       (λ g. let a = greatest_alone t w c g in ((g.chain, g.certain), (a.left, a.right)))
-      (Decides-and (is_certain t w c) (noLeft && noRight) (certain_chain_decided c) (Decides-and noLeft noRight left right))
+      (Decides-and (is_certain t w c) (no_left && no_right) (certain_chain_decided c) (Decides-and no_left no_right left right))
 
   greatest_has : (c : List ℕ) → Greatest t w c → ContainsAt (greatest_list t w) c
   unfolding greatest_list

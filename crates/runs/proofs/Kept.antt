@@ -42,10 +42,10 @@ abbrev held_figure : Certainty → ℕ
 held_figure (Held n) = n
 held_figure (Loose n) = 0
 
-held-figure : (z : ℤ) → held_figure (by_excess z) ≡ positive z
-held-figure (pos zero) = refl
-held-figure (pos (suc k)) = refl
-held-figure (negsuc k) = refl
+held_figure_lem : (z : ℤ) → held_figure (by_excess z) ≡ positive z
+held_figure_lem (pos zero) = refl
+held_figure_lem (pos (suc k)) = refl
+held_figure_lem (negsuc k) = refl
 
 -- held only with 1 or more
 abbrev held_some : Certainty → Bool
@@ -59,9 +59,9 @@ held_some_lem (negsuc k) = refl
 
 told-figure : (t : Tally) (c : List ℕ) → Told t c
 told-figure t c = record {
-  held = λ n e. sym (ap held_figure e) ∙ held-figure (excess t c);
+  held = λ n e. sym (ap held_figure e) ∙ held_figure_lem (excess t c);
   some = λ n e. ltb-true 0 n (sym (ap held_some e) ∙ held_some_lem (excess t c));
-  loose = λ n e. sym (held-figure (excess t c)) ∙ ap held_figure e;
+  loose = λ n e. sym (held_figure_lem (excess t c)) ∙ ap held_figure e;
 }
 
 module _ (t : Tally) (well : WellFormed t) where

@@ -2,12 +2,12 @@ use Rattle.std.proofs.Common.{◌+◌, drop, sym, ap, ◌∙◌}
 use Rattle.std.proofs.lemmas.List.{at_drop_all}
 use Rattle.book.specs.Lines.{lines}
 use Rattle.flow.specs.Chains.{runs}
-use Rattle.dividing.proofs.AvoidingSteps.{runs_more, runs-stop}
+use Rattle.dividing.proofs.AvoidingSteps.{runs_more, runs_stop}
 use Rattle.dividing.proofs.avoiding.runs_on.Goals as goal
 
 pub returns-then-not-line_leaves : goal.returns-then-not-line_leaves
 returns-then-not-line_leaves c =
-    sym (sym c.loop-i.invariant ∙ runs-stop (lines c.args.book.now) c.loop-i.account c.args.chain.now c.loop-i.i c.loop-i-test.true (sym c.if-not-line_leaves.ensures))
+    sym (sym c.loop-i.invariant ∙ runs_stop (lines c.args.book.now) c.loop-i.account c.args.chain.now c.loop-i.i c.loop-i-test.true (sym c.if-not-line_leaves.ensures))
 
 pub loop-i-preserved : goal.loop-i-preserved
 loop-i-preserved c =
