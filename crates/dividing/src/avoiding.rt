@@ -1,5 +1,5 @@
 // The avoiding rule: it keeps tonnes off a chain while it can.
-ghost use Rattle.std.specs.Prelude.{◌≡◌, ℕ, ◌≤◌, List, length, take};
+ghost use Rattle.std.specs.Prelude.{◌≡◌, ℕ, ◌<◌, ◌≤◌, List, [], length, take};
 ghost use Rattle.book.specs.Lines.{lines};
 ghost use Rattle.book.specs.Tally.{Tally};
 ghost use Rattle.flow.specs.Chains.{longest_chain, runs, is_chain};
@@ -24,6 +24,7 @@ impl Avoiding {
     // The rule that avoids the chain. Nothing is held of more lines than a chain can have: they are a chain of no book.
     pub fn new(chain: &[u16]) -> Avoiding
         ensures held { length chain.now ≤ longest_chain → take result.count result.chain ≡ chain.now }
+        ensures none { longest_chain < length chain.now → take result.count result.chain ≡ [] }
         ensures same { (t : Tally) (left : List ℕ) (a : ℕ) (walked : List ℕ) → avoiding (take result.count result.chain) t left a walked ≡ avoiding chain.now t left a walked }
     {
         let mut held = [0u16; LONGEST_CHAIN];
