@@ -2,12 +2,12 @@
 --   number, carries   a fault's number, and the values that it carries
 --   refusal           a fault as an outcome; its layer is the book
 --   posted, done      the results of post, and of amend and strike, as outcomes
---   told              the answer of any call as an outcome
+--   values, told      the values of the answer of any call, and its result as an outcome
 --   checked           a check as what it does to the outcome that would follow
 use Rattle.std.specs.Prelude.{ℕ, List, [], ◌∷◌, Ok, Err, Result}
 use Rattle.book.specs.Outcome.{book, Outcome, answers, refuses}
 use Rattle.book.specs.declared.entries.Answer.{Answer}
-use Rattle.book.specs.declared.entries.Answer.TheVariants.{Posted, Done, Refused}
+use Rattle.book.specs.declared.entries.Answer.TheVariants.{Posted, Done}
 use Rattle.book.specs.declared.entries.Fault.{Fault}
 use Rattle.book.specs.declared.entries.Fault.TheVariants.{Full, AccountTooHigh, NotUpward, AmountOutOfLimits, NotPosted, LineStruck, Unbalanced}
 
@@ -33,8 +33,8 @@ abbrev pub refusal : Fault → Outcome
 refusal e = refuses book (number e) (carries e)
 
 abbrev pub ended : {T : Type 0} → (T → List ℕ) → Result T Fault → Outcome
-ended values (Ok x) = answers (values x)
-ended values (Err e) = refusal e
+ended values_of (Ok x) = answers (values_of x)
+ended values_of (Err e) = refusal e
 
 abbrev pub posted : Result ℕ Fault → Outcome
 posted r = ended (λ n. n ∷ []) r
@@ -42,10 +42,12 @@ posted r = ended (λ n. n ∷ []) r
 abbrev pub done : {T : Type 0} → Result T Fault → Outcome
 done r = ended (λ _. []) r
 
-abbrev pub told : Answer → Outcome
-told (Posted line) = answers (line ∷ [])
-told Done = answers []
-told (Refused e) = refusal e
+abbrev pub values : Answer → List ℕ
+values (Posted line) = line ∷ []
+values Done = []
+
+abbrev pub told : Result Answer Fault → Outcome
+told r = ended values r
 
 abbrev pub checked : {T : Type 0} → Result T Fault → Outcome → Outcome
 checked (Ok x) o = o

@@ -5,20 +5,21 @@
 --   Entered      an entry keeps its call and has the outcome that a tally gives for it
 --   TalliedLog   the log keeps its calls and has of each the outcome that the tally of the calls gives; the lines at the end
 --                are those of the tally, which is well-formed
-use Rattle.std.specs.Prelude.{◌≡◌, List, [], map, Some, None, Option}
+use Rattle.std.specs.Prelude.{◌≡◌, List, [], map, Some, None, Option, Result}
 use Rattle.book.specs.Faults.{told}
 use Rattle.book.specs.Lines.{lines}
 use Rattle.book.specs.Outcome.{Outcome}
 use Rattle.book.specs.Tally.{Tally, tally, outcome, outcomes, WellFormed}
 use Rattle.book.specs.declared.entries.Answer.{Answer}
 use Rattle.book.specs.declared.entries.Call.{Call}
+use Rattle.book.specs.declared.entries.Fault.{Fault}
 use Rattle.book.specs.declared.run.Entry.{Entry}
 use Rattle.book.specs.declared.state.Book.{Book}
 
 abbrev pub calls_of : List Entry → List Call
 calls_of log = map (λ e. e.call) log
 
-abbrev pub outcome_of : Option Answer → Option Outcome
+abbrev pub outcome_of : Option (Result Answer Fault) → Option Outcome
 outcome_of None = None
 outcome_of (Some a) = Some (told a)
 

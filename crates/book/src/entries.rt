@@ -2,7 +2,8 @@
 ghost use Rattle.std.specs.Prelude.{◌≡◌};
 ghost use Rattle.book.specs.Faults.{number};
 
-// A line of the book, by its number's place. Tonnes go from the account `from` to the account `to`.
+// A line of the book, by its number's place. Tonnes go from the account `from` to the account `to`. Not an Option: a struck line says that it
+// is struck, and reading a number answers an Option of a line already.
 #[derive(Clone, Copy)]
 pub enum Line {
     Live { from: u8, to: u8, amount: u32 },
@@ -29,7 +30,7 @@ pub enum Fault {
 }
 
 impl Fault {
-    // The refusal's number.
+    // The refusal's number. By name and not by From: a fault has a layer and values, too, and a bare u8 would not say which it is.
     pub fn number(&self) -> u8
         ensures { result ≡ number self.now }
     {
@@ -54,10 +55,9 @@ pub enum Call {
     Clear,
 }
 
-// What such a call answers.
+// What such a call answers where it is not refused.
 #[derive(Clone, Copy)]
 pub enum Answer {
     Posted(u16),
     Done,
-    Refused(Fault),
 }

@@ -10,6 +10,7 @@ mod table;
 pub use entries::{Answer, Call, Fault, Line};
 pub use run::{Entry, Replayed, replay, replay_log};
 pub use state::Book;
+pub use table::Side;
 
 // as many lines as a book takes
 pub const MOST_LINES: usize = 256;

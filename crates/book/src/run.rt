@@ -5,7 +5,7 @@ ghost use Rattle.book.specs.Logs.{Entered, TalliedLog};
 ghost use Rattle.book.specs.Runs.{Tallied};
 ghost use Rattle.book.specs.Tally.{after};
 
-use crate::entries::{Answer, Call};
+use crate::entries::{Answer, Call, Fault};
 use crate::state::Book;
 use std::alloc::{AllocError, Global};
 
@@ -13,17 +13,18 @@ use std::alloc::{AllocError, Global};
 #[derive(Drop)]
 pub struct Replayed {
     pub book: Book,
-    pub answers: Vec<Answer>,
+    pub answers: Vec<Result<Answer, Fault>>,
 }
 
 // One call of a run, and what it answered once it is made.
 #[derive(Clone, Copy)]
 pub struct Entry {
     pub call: Call,
-    pub answer: Option<Answer>,
+    pub answer: Option<Result<Answer, Fault>>,
 }
 
-// Makes the calls, one after the other, on a clean book.
+// Makes the calls, one after the other, on a clean book. Beside replay_log: this one owns its answers and can want memory, that one writes them
+// where its caller has room and cannot fail; one function over both would ask its caller which, and fail where replay_log does not.
 pub fn replay(heap: Global, calls: &[Call]) -> Result<Replayed, AllocError>
     ensures { IfOk result (Tallied calls.now) }
 {

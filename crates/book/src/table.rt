@@ -1,12 +1,14 @@
-// The inner table of a book: plain records, and no promise about them.
-ghost use Rattle.std.specs.Prelude.{◌≡◌, ◌<◌, length, slice_index_or, slice_set};
+// The inner table of a book: plain records, and no promise about them. The place of a record is a plain index: the table's three calls ask
+// that it is within, and a type for it would have to be made and read at each of them.
+ghost use Rattle.std.specs.Prelude.{◌≡◌, ◌<◌, slice_index_or, slice_set};
 ghost use Rattle.book.specs.Limits.{most_lines};
 ghost use Rattle.book.specs.Records.{blank, revalued, retired, line_of, account_of};
 
 use crate::MOST_LINES;
 use crate::entries::Line;
 
-// One line as it lies in the table; `live` is false for a struck line and for a blank record.
+// One line as it lies in the table; `live` is false for a struck line and for a blank record. A flag and not an Option: to strike is to write
+// one field, and what holds of a line's accounts and amount goes on holding of it struck.
 #[derive(Clone, Copy)]
 pub struct Record {
     pub from: u8,
@@ -32,18 +34,20 @@ impl Record {
             Side::Out => self.from,
         }
     }
+}
 
-    // The line that the record stands for.
-    pub fn line(&self) -> Line
-        ensures { result ≡ line_of self.now }
-    {
-        if !self.live {
+// The line that a record stands for.
+impl From<Record> for Line {
+    ghost from_gives = { λ stored line. line ≡ line_of stored };
+
+    fn from(stored: Record) -> Line {
+        if !stored.live {
             return Line::Struck;
         }
         Line::Live {
-            from: self.from,
-            to: self.to,
-            amount: self.amount,
+            from: stored.from,
+            to: stored.to,
+            amount: stored.amount,
         }
     }
 }
@@ -55,8 +59,7 @@ pub struct Table {
 
 impl Table {
     pub fn put(&mut self, at: usize, record: Record)
-        requires whole { length self.old.records ≡ most_lines }
-        requires within { at < most_lines }
+        requires { at < most_lines }
         ensures { self.new.records ≡ slice_set self.old.records at «record» }
     {
         self.records[at] = record;
@@ -64,8 +67,7 @@ impl Table {
 
     // Lends one record, and gives it its new amount.
     pub fn revalue(&mut self, at: usize, amount: u32)
-        requires whole { length self.old.records ≡ most_lines }
-        requires within { at < most_lines }
+        requires { at < most_lines }
         ensures { self.new.records ≡ slice_set self.old.records at (revalued amount (slice_index_or self.old.records at blank)) }
     {
         let lent = &mut self.records[at];
@@ -73,8 +75,7 @@ impl Table {
     }
 
     pub fn retire(&mut self, at: usize)
-        requires whole { length self.old.records ≡ most_lines }
-        requires within { at < most_lines }
+        requires { at < most_lines }
         ensures { self.new.records ≡ slice_set self.old.records at (retired (slice_index_or self.old.records at blank)) }
     {
         let lent = &mut self.records[at];

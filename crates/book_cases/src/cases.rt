@@ -1,11 +1,9 @@
 // Cases: what one line of text asks of a book.
-use crate::replies::Reply;
-use crate::words::{next_number, next_word};
-use anyhow::anyhow;
-use book::{Book, Call};
+use book::{Answer, Book, Call, Fault, Side};
+use case_words::{Reply, Told, next_number, next_word, parse_call};
 use std::str::SplitWhitespace;
 
-// What is asked, and how many times.
+// What is asked, and how many times. It is no `Change`, which is a call alone: one type for both would be passed what to read and to ask, and be no plainer.
 #[derive(Clone, Copy)]
 pub struct Case {
     times: u16,
@@ -22,10 +20,8 @@ enum Ask {
     Line(u16),
     Live(u16),
     Len,
-    In(u8),
-    Out(u8),
-    Ins,
-    Outs,
+    Total(Side, u8),
+    Totals(Side),
 }
 
 impl Case {
@@ -42,13 +38,12 @@ impl Case {
         Ok(Case { times, ask })
     }
 
-    // Asks the book so many times, and gives the last answer.
-    pub fn put_to(&self, book: &mut Book) -> Reply {
-        let mut reply = self.ask.put_to(book);
+    // Asks the book so many times, once at least, and gives the last answer.
+    pub fn put_to(&self, book: &mut Book) -> Told {
         for _ in 1..self.times {
-            reply = self.ask.put_to(book);
+            let _ = self.ask.put_to(book);
         }
-        reply
+        Told::from(self.ask.put_to(book))
     }
 }
 
@@ -59,62 +54,38 @@ fn parse_ask(name: &str, words: &mut SplitWhitespace<'_>) -> anyhow::Result<Ask>
         "line" => Ok(Ask::Line(next_number(words)?)),
         "live" => Ok(Ask::Live(next_number(words)?)),
         "len" => Ok(Ask::Len),
-        "in" => Ok(Ask::In(next_number(words)?)),
-        "out" => Ok(Ask::Out(next_number(words)?)),
-        "ins" => Ok(Ask::Ins),
-        "outs" => Ok(Ask::Outs),
+        "in" => Ok(Ask::Total(Side::In, next_number(words)?)),
+        "out" => Ok(Ask::Total(Side::Out, next_number(words)?)),
+        "ins" => Ok(Ask::Totals(Side::In)),
+        "outs" => Ok(Ask::Totals(Side::Out)),
         _ => Ok(Ask::Change(parse_call(name, words)?)),
     }
 }
 
-// Reads a change from its name and the words that follow.
-pub fn parse_call(name: &str, words: &mut SplitWhitespace<'_>) -> anyhow::Result<Call> {
-    match name {
-        "post" => Ok(Call::Post {
-            from: next_number(words)?,
-            to: next_number(words)?,
-            amount: next_number(words)?,
-        }),
-        "amend" => Ok(Call::Amend {
-            line: next_number(words)?,
-            amount: next_number(words)?,
-        }),
-        "strike" => Ok(Call::Strike {
-            line: next_number(words)?,
-        }),
-        "clear" => Ok(Call::Clear),
-        _ => Err(anyhow!("no such call")),
-    }
-}
-
 impl Ask {
-    fn put_to(&self, book: &mut Book) -> Reply {
+    fn put_to(&self, book: &mut Book) -> Result<Reply, Fault> {
         match *self {
-            Ask::Change(call) => change(book, call),
-            Ask::Make(call) => Reply::of_answer(book.make(call)),
-            Ask::Balance => Reply::of_check(book.balance(), Reply::Balanced),
-            Ask::Line(number) => Reply::of_line(book.line(number)),
-            Ask::Live(number) => Reply::of_check(book.check_live(number), Reply::Yes),
-            Ask::Len => Reply::Number(book.len() as u32),
-            Ask::In(account) => Reply::Number(book.in_total(account)),
-            Ask::Out(account) => Reply::Number(book.out_total(account)),
-            Ask::Ins => Reply::Totals(book.in_totals()),
-            Ask::Outs => Reply::Totals(book.out_totals()),
+            Ask::Change(call) => change(book, call).map(Reply::Answer),
+            Ask::Make(call) => book.make(call).map(Reply::Answer),
+            Ask::Balance => book.balance().map(|_| Reply::Balanced),
+            Ask::Line(number) => Ok(Reply::Line(book.line(number))),
+            Ask::Live(number) => book.check_live(number).map(|_| Reply::Yes),
+            Ask::Len => Ok(Reply::Number(book.len() as u32)),
+            Ask::Total(side, account) => Ok(Reply::Number(book.total(side, account))),
+            Ask::Totals(side) => Ok(Reply::Totals(book.totals(side))),
         }
     }
 }
 
-fn change(book: &mut Book, call: Call) -> Reply {
+// Makes a change by the call of its own name, so that the cases try these calls and not `make` alone.
+fn change(book: &mut Book, call: Call) -> Result<Answer, Fault> {
     match call {
-        Call::Post { from, to, amount } => match book.post(from, to, amount) {
-            Ok(number) => Reply::Posted(number),
-            Err(fault) => Reply::Refused(fault),
-        },
-        Call::Amend { line, amount } => Reply::of_check(book.amend(line, amount), Reply::Done),
-        Call::Strike { line } => Reply::of_check(book.strike(line), Reply::Done),
+        Call::Post { from, to, amount } => book.post(from, to, amount).map(Answer::Posted),
+        Call::Amend { line, amount } => book.amend(line, amount).map(|_| Answer::Done),
+        Call::Strike { line } => book.strike(line).map(|_| Answer::Done),
         Call::Clear => {
             book.clear();
-            Reply::Done
+            Ok(Answer::Done)
         }
     }
 }

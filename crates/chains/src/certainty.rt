@@ -12,9 +12,10 @@ ghost use Rattle.flow.specs.Excess.{excess};
 
 use crate::checks::{check_chain, parts};
 use crate::faults::Fault;
-use book::{ACCOUNTS, Book};
+use crate::line_parts::Parts;
+use book::{ACCOUNTS, Book, Side};
 
-// Held with so many tonnes, or loose by so many below zero.
+// Held with so many tonnes, or loose by so many below zero. Not a Result: both are answers, and loose is no failure of the question.
 #[derive(Clone, Copy)]
 pub enum Certainty {
     Held(u64),
@@ -28,7 +29,7 @@ pub fn certain(book: &Book, chain: &[u16]) -> Result<Certainty, Fault>
     ensures agreed { OnOk result (Agreed (lines book.now) chain.now) }
 {
     check_chain(book, chain)?;
-    let totals = book.in_totals();
+    let totals = book.totals(Side::In);
     Ok(judge(excess_of(book, &totals, chain)))
 }
 
@@ -44,7 +45,7 @@ fn judge(excess: i64) -> Certainty
 
 // The excess of a chain, from that of the chain without its last line.
 fn excess_of(book: &Book, totals: &[u32; ACCOUNTS], chain: &[u16]) -> i64
-    requires totals { (length totals.now ≡ accounts) × (((a : ℕ) → a < accounts → slice_index totals.now a ≡ in_total (lines book.now) a)) }
+    requires totals { (a : ℕ) → a < accounts → slice_index totals.now a ≡ in_total (lines book.now) a }
     requires short { length chain.now ≤ longest_chain }
     ensures value { result ≡ excess (lines book.now) chain.now }
     ensures low { neg_ℤ (pos (2 ^ 32 * length chain.now)) ≤ℤ result }
@@ -52,13 +53,10 @@ fn excess_of(book: &Book, totals: &[u32; ACCOUNTS], chain: &[u16]) -> i64
 {
     match chain {
         [] => 0,
-        [only] => {
-            let (_, _, amount) = parts(book, *only);
-            amount as i64
-        }
+        [only] => parts(book, *only).amount as i64,
         [front @ .., last] => {
             let before = excess_of(book, totals, front);
-            let (from, _, amount) = parts(book, *last);
+            let Parts { from, amount, .. } = parts(book, *last);
             let total = totals[from as usize];
             before + amount as i64 - total as i64
         }

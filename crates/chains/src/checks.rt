@@ -1,5 +1,5 @@
 // The checks of a chain: each stops at its rows of the table of stops, in their order, or passes.
-ghost use Rattle.std.specs.Prelude.{◌≡◌, ◌<◌, ◌≤◌, true, length, IfOk, Some, None, OnOk};
+ghost use Rattle.std.specs.Prelude.{◌≡◌, ◌<◌, ◌≤◌, length, IfOk, None, OnOk};
 ghost use Rattle.book.specs.Limits.{accounts, greatest_amount};
 ghost use Rattle.book.specs.Lines.{lines};
 ghost use Rattle.book.specs.Outcome.{Outcome, stopped};
@@ -11,6 +11,7 @@ ghost use Rattle.flow.specs.Chains.{longest_chain, from_of, to_of, Chain};
 
 use crate::LONGEST_CHAIN;
 use crate::faults::Fault;
+use crate::line_parts::Parts;
 use book::{Book, Line};
 
 pub fn check_length(length: usize) -> Result<(), Fault>
@@ -24,24 +25,12 @@ pub fn check_length(length: usize) -> Result<(), Fault>
 }
 
 // The accounts that a line leaves and enters, and its amount; nothing of these where the line is not live.
-pub fn parts(book: &Book, line: u16) -> (u8, u8, u32)
-    ensures from { (result.0 ≡ from_of (at (lines book.now) line)) × (result.0 < accounts) }
-    ensures to { result.1 ≡ to_of (at (lines book.now) line) }
-    ensures amount { (result.2 ≡ amount_of (at (lines book.now) line)) × (result.2 ≤ greatest_amount) }
+pub fn parts(book: &Book, line: u16) -> Parts
+    ensures from { (result.from ≡ from_of (at (lines book.now) line)) × (result.from < accounts) }
+    ensures to { result.to ≡ to_of (at (lines book.now) line) }
+    ensures amount { (result.amount ≡ amount_of (at (lines book.now) line)) × (result.amount ≤ greatest_amount) }
 {
-    match book.line(line) {
-        Some(found) => parts_of(found),
-        None => (0, 0, 0),
-    }
-}
-
-fn parts_of(line: Line) -> (u8, u8, u32)
-    ensures { (result.0 ≡ from_of line) × (result.1 ≡ to_of line) × (result.2 ≡ amount_of line) }
-{
-    match line {
-        Line::Live { from, to, amount } => (from, to, amount),
-        Line::Struck => (0, 0, 0),
-    }
+    Parts::from(book.line(line).unwrap_or(Line::Struck))
 }
 
 // One line of a chain: it is live, and leaves the account that the line before it enters. Answers the account that it enters.
@@ -49,19 +38,15 @@ fn check_line(book: &Book, place: usize, before: Option<u8>, line: u16) -> Resul
     ensures stop { (o : Outcome) → checked result o ≡ stopped (line_stops (lines book.now) place before line) o }
     ensures entered { IfOk result (λ to. to ≡ to_of (at (lines book.now) line)) }
 {
+    // not by map_err with `?`: tried, and the proof that the refusal carries the place did not close
     if let Err(fault) = book.check_live(line) {
         return Err(Fault::Line(place, fault));
     }
-    let (from, to, _) = parts(book, line);
-    match before {
-        Some(account) => {
-            if account != from {
-                return Err(Fault::Gap(place));
-            }
-            Ok(to)
-        }
-        None => Ok(to),
+    let found = parts(book, line);
+    if before.is_some_and(|account| account != found.from) {
+        return Err(Fault::Gap(place));
     }
+    Ok(found.to)
 }
 
 // Each line of a chain in turn.
@@ -69,9 +54,8 @@ fn check_lines(book: &Book, chain: &[u16]) -> Result<(), Fault>
     ensures { (o : Outcome) → checked result o ≡ stopped (lines_stops (lines book.now) 0 None chain.now) o }
 {
     let mut before = None;
-    for i in 0..chain.len() {
-        let to = check_line(book, i, before, chain[i])?;
-        before = Some(to);
+    for (place, line) in chain.iter().enumerate() {
+        before = Some(check_line(book, place, before, *line)?);
     }
     Ok(())
 }
@@ -91,8 +75,5 @@ pub fn check_balance(book: &Book) -> Result<(), Fault>
     ensures passed { OnOk result (Balanced (lines book.now)) }
     ensures sound { WellFormed (lines book.now) }
 {
-    match book.balance() {
-        Ok(_) => Ok(()),
-        Err(fault) => Err(Fault::Book(fault)),
-    }
+    Ok(book.balance()?)
 }

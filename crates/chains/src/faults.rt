@@ -1,6 +1,7 @@
 // Why a question about chains is refused.
 ghost use Rattle.std.specs.Prelude.{◌≡◌};
 ghost use Rattle.chains.specs.Faults.{number};
+ghost use Rattle.chains.specs.declared.faults.Fault.TheVariants.{Book};
 
 use book::Fault as BookFault;
 
@@ -21,7 +22,7 @@ pub enum Fault {
 }
 
 impl Fault {
-    // The refusal's number.
+    // The refusal's number, by name as that of the book's faults.
     pub fn number(&self) -> u8
         ensures { result ≡ number self.now }
     {
@@ -33,5 +34,13 @@ impl Fault {
             Fault::NoFloor => 11,
             Fault::Book(fault) => fault.number(),
         }
+    }
+}
+
+impl From<BookFault> for Fault {
+    ghost from_gives = { λ fault of. of ≡ Book fault };
+
+    fn from(fault: BookFault) -> Fault {
+        Self::Book(fault)
     }
 }

@@ -2,37 +2,19 @@
 #![tactic(auto)]
 
 use book::Book;
+use case_words::reply_to;
 use cases::answer_case;
 use std::fs;
 
 mod cases;
-mod replies;
-mod words;
 
+// All cases go to the same book. This loop stands in each program of cases: in the library it would be told of a closure that changes the book, with a longer contract.
 fn main(rt: HostRuntime) -> anyhow::Result<()> {
-    run(&rt)
-}
-
-fn run(rt: &HostRuntime) -> anyhow::Result<()> {
-    let cases = fs::read_to_string(rt, "cases.txt")?;
-    print_cases(rt, cases.as_str())
-}
-
-// All cases go to the same book. A heading is printed as it is.
-fn print_cases(rt: &HostRuntime, text: &str) -> anyhow::Result<()> {
+    let cases = fs::read_to_string(&rt, "cases.txt")?;
     let mut book = Book::new();
-    for line in text.lines() {
-        if line.starts_with("#") {
-            rt.println(line)?;
-        } else {
-            print_case(rt, &mut book, line)?;
-        }
+    for line in cases.as_str().lines() {
+        let replied = reply_to(line, |text| answer_case(rt.alloc(), &mut book, text))?;
+        rt.println(replied)?;
     }
-    Ok(())
-}
-
-fn print_case(rt: &HostRuntime, book: &mut Book, line: &str) -> anyhow::Result<()> {
-    let reply = answer_case(rt.alloc(), book, line)?;
-    println!(rt; "{line} -> {reply}")?;
     Ok(())
 }

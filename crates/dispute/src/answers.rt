@@ -1,16 +1,14 @@
 // What the book answers about its chains, in words.
-use crate::shown::{Judged, Lines};
-use anyhow::anyhow;
+use crate::shown::Judged;
+use anyhow::{anyhow, bail};
 use book::Book;
+use case_words::{Lines, Tables, lines_of};
 use chains::{Certainty, certain};
 use dividing::{ROW_STRIDE, TABLE_ENTRIES, TABLE_TONNES, counter};
 use listing::read_list;
 
 fn certainty_of(book: &Book, chain: &[u16]) -> anyhow::Result<Certainty> {
-    match certain(book, chain) {
-        Ok(certainty) => Ok(certainty),
-        Err(_) => Err(anyhow!("a chain is refused")),
-    }
+    certain(book, chain).map_err(|_| anyhow!("a chain is refused"))
 }
 
 pub fn print_certainty(rt: &HostRuntime, book: &Book, chain: &[u16]) -> anyhow::Result<()> {
@@ -22,7 +20,7 @@ pub fn print_certainty(rt: &HostRuntime, book: &Book, chain: &[u16]) -> anyhow::
 
 pub fn print_list(rt: &HostRuntime, book: &Book, floor: u32) -> anyhow::Result<()> {
     let Ok(list) = read_list(rt.alloc(), book, floor) else {
-        return Err(anyhow!("the list is refused"));
+        bail!("the list is refused");
     };
     println!(rt; "greatest certain chains at floor {floor}")?;
     for listed in &list {
@@ -46,26 +44,16 @@ pub fn print_lowest_split(rt: &HostRuntime, book: &Book, chain: &[u16]) -> anyho
     Ok(())
 }
 
+// Each row of the split, in words of its own: what the library shows of tables is another sentence.
 fn print_counter(rt: &HostRuntime, book: &Book, chain: &[u16]) -> anyhow::Result<()> {
-    let mut rows = vec![in rt.alloc(); 0u16; TABLE_ENTRIES]?;
-    let mut tonnes = vec![in rt.alloc(); 0u32; TABLE_TONNES]?;
-    let Ok(count) = counter(book, chain, &mut rows, &mut tonnes) else {
-        return Err(anyhow!("a counter split is refused"));
+    let mut tables = Tables::new(rt.alloc(), TABLE_ENTRIES, TABLE_TONNES)?;
+    let Ok(count) = counter(book, chain, &mut tables.rows, &mut tables.tonnes) else {
+        bail!("a counter split is refused");
     };
-    for (row, tonnes) in rows.chunks(ROW_STRIDE).zip(tonnes.iter()).take(count) {
-        print_row(rt, row, *tonnes)?;
-    }
-    Ok(())
-}
-
-// The row's first entry is its length.
-fn print_row(rt: &HostRuntime, row: &[u16], tonnes: u32) -> anyhow::Result<()> {
-    if let [length, numbers @ ..] = row {
-        let length = *length as usize;
-        if length <= numbers.len() {
-            let lines = Lines(&numbers[..length]);
-            println!(rt; "  {tonnes} tonnes on{lines}")?;
-        }
+    let rows = tables.rows.chunks(ROW_STRIDE);
+    for (row, tonnes) in rows.zip(&tables.tonnes).take(count) {
+        let lines = Lines(lines_of(row));
+        println!(rt; "  {tonnes} tonnes on{lines}")?;
     }
     Ok(())
 }

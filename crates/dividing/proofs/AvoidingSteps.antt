@@ -1,54 +1,65 @@
 -- The avoiding rule, line by line of its chain. Assumes nothing.
-use Rattle.std.proofs.Common.{◌≡◌, ℕ, ◌+◌, ◌-◌, ◌<◌, ◌≤◌, Bool, true, false, cond, not, ◌&&◌, eqb, ltb, leb, List, [], ◌∷◌, ◌++◌, length, get_or, take, drop, sym, refl, ap, ◌∙◌, arith, rules}
+use Rattle.std.proofs.Common.{◌≡◌, ℕ, zero, suc, ◌+◌, ◌-◌, ◌<◌, ◌≤◌, Bool, true, false, Some, None, cond, not, ◌&&◌, eqb, ltb, List, [], ◌∷◌, ◌++◌, length, get_or, take, drop, sym, refl, ap, ◌∙◌, ⊎_elim, arith, rules}
 use Rattle.std.proofs.lemmas.List.{at_drop_more, at_drop_all, take_more}
-use Rattle.std.proofs.lemmas.Bool.{and_left, both_ways, cond-true, cond-false, eq-eqb, ne_eqb, lt-leb, le-ltb, lt-ltb}
+use Rattle.std.proofs.lemmas.Bool.{both_ways, cases_Bool, cond-true, cond-false, eq-eqb, ne_eqb, le-ltb, lt-ltb}
 use Rattle.std.proofs.lemmas.Slice.Eq.{compares_Decides, slice_eq-Decides}
 use Rattle.std.proofs.lemmas.Bool.Decides.{same_from_decides, Decides-eqb}
 use Rattle.std.specs.Cmp.Lexicographic.{pointwise}
 use Rattle.book.specs.Search.{lowest_of}
 use Rattle.book.specs.Tally.{Tally, at}
-use Rattle.book.specs.Totals.{leaves}
-use Rattle.flow.specs.Chains.{longest_chain, from_of, to_of, runs, linked, is_chain}
+use Rattle.dividing.specs.Places.{InnerPlace, LeavesAt}
+use Rattle.flow.specs.Chains.{from_of, is_chain}
 use Rattle.flow.specs.Rules.{is_open, lowest, same_list, ends_with, turn, avoiding_from, avoiding}
-
--- lines that run on
-module _ (t : Tally) (a : ℕ) (c : List ℕ) (i : ℕ) (h : i < length c) where
-  pub runs_more : leaves a (at t (get_or c i 0)) ≡ true → runs t a (drop i c) ≡ runs t (to_of (at t (get_or c i 0))) (drop (i + 1) c)
-  runs_more out = at_drop_more (runs t a) c i 0 h ∙ ap (λ b. b && runs t (to_of (at t (get_or c i 0))) (drop (i + 1) c)) out
-
-  pub runs_stop : leaves a (at t (get_or c i 0)) ≡ false → runs t a (drop i c) ≡ false
-  runs_stop out = at_drop_more (runs t a) c i 0 h ∙ and_left (leaves a (at t (get_or c i 0))) (runs t (to_of (at t (get_or c i 0))) (drop (i + 1) c)) out
 
 -- the chain from a place on
 module _ (t : Tally) (left : List ℕ) (a : ℕ) (walked : List ℕ) where
-  abbrev pub from_place : List ℕ → ℕ → ℕ
+  abbrev from_place : List ℕ → ℕ → ℕ
   from_place c i = avoiding_from (take i c) (drop i c) t left a walked
 
   module _ (c : List ℕ) (i : ℕ) (h : i < length c) where
     split : from_place c i ≡ cond (eqb (from_of (at t (get_or c i 0))) a) (turn (take i c) (get_or c i 0) t left a walked) (avoiding_from (take i c ++ get_or c i 0 ∷ []) (drop (i + 1) c) t left a walked)
     split = at_drop_more (λ d. avoiding_from (take i c) d t left a walked) c i 0 h
 
-    pub place_turns : from_of (at t (get_or c i 0)) ≡ a → from_place c i ≡ turn (take i c) (get_or c i 0) t left a walked
+    place_turns : from_of (at t (get_or c i 0)) ≡ a → from_place c i ≡ turn (take i c) (get_or c i 0) t left a walked
     place_turns here = split ∙ cond-true _ _ _ (eq-eqb (from_of (at t (get_or c i 0))) a here)
 
-    pub place_more : (from_of (at t (get_or c i 0)) ≡ a → ⊥) → from_place c i ≡ from_place c (i + 1)
+    place_more : (from_of (at t (get_or c i 0)) ≡ a → ⊥) → from_place c i ≡ from_place c (i + 1)
     place_more elsewhere =
         split
         ∙ (cond-false _ _ _ (ne_eqb (from_of (at t (get_or c i 0))) a elsewhere) ∙ ap (λ f. avoiding_from f (drop (i + 1) c) t left a walked) (sym (take_more c i 0 h)))
 
-  pub place_all : (c : List ℕ) (i : ℕ) → length c ≤ i → from_place c i ≡ lowest t left a walked
-  place_all c i past = at_drop_all (λ d. avoiding_from (take i c) d t left a walked) c i past
-
-  pub place_first : (c : List ℕ) → is_chain t c ≡ true → from_place c 1 ≡ avoiding c t left a walked
+  place_first : (c : List ℕ) → is_chain t c ≡ true → from_place c 1 ≡ avoiding c t left a walked
   place_first [] chain = absurd (both_ways (is_chain t []) refl chain)
   place_first (n ∷ ns) chain = sym (cond-true (is_chain t (n ∷ ns)) _ _ chain)
 
-  pub avoiding_broken : (c : List ℕ) → is_chain t c ≡ false → lowest t left a walked ≡ avoiding c t left a walked
+  -- past lines of the chain that leave other accounts
+  place_past : (c : List ℕ) (d : ℕ) → d < length c → ((k : ℕ) → 1 ≤ k → k < 1 + d → LeavesAt t a c k → ⊥) → from_place c 1 ≡ from_place c (1 + d)
+  place_past c zero within none = refl
+  place_past c (suc d) within none =
+      place_past c d (omega arith) (λ k ge lt. none k ge (omega arith))
+      ∙ (place_more c (1 + d) (omega arith) (none (1 + d) (omega arith) (omega arith)) ∙ ap (from_place c) (omega arith))
+
+  pub avoiding_turns : (c : List ℕ) (i j : ℕ) → j ≡ i → InnerPlace t a c (Some i) → turn (take j c) (get_or c i 0) t left a walked ≡ avoiding c t left a walked
+  avoiding_turns c i j same (chain, inner, within, here, none) =
+      let before = place_past c (i - 1) (omega arith) (λ k ge lt. none k ge (omega arith)) in
+      let place : 1 + (i - 1) ≡ i = omega arith in
+      ap (λ k. turn (take k c) (get_or c i 0) t left a walked) same
+      ∙ sym (place_turns c i within here) ∙ (sym (ap (from_place c) place) ∙ (sym before ∙ place_first c chain))
+
+  avoiding_broken : (c : List ℕ) → is_chain t c ≡ false → lowest t left a walked ≡ avoiding c t left a walked
   avoiding_broken [] broken = refl
   avoiding_broken (n ∷ ns) broken = sym (cond-false (is_chain t (n ∷ ns)) _ _ broken)
 
-  pub avoiding_long : (c : List ℕ) → longest_chain < length c → lowest t left a walked ≡ avoiding c t left a walked
-  avoiding_long c long = avoiding_broken c (and_left (leb (length c) longest_chain) (linked t c) (lt-leb (length c) longest_chain long))
+  avoiding_passes : (c : List ℕ) → InnerPlace t a c None → is_chain t c ≡ true → lowest t left a walked ≡ avoiding c t left a walked
+  avoiding_passes [] none chain = refl
+  avoiding_passes (n ∷ ns) none chain =
+      let c = n ∷ ns in
+      let past = place_past c (length ns) (omega arith) (λ k ge lt. none chain k ge (omega arith)) in
+      let all = at_drop_all (λ d. avoiding_from (take (1 + length ns) c) d t left a walked) c (1 + length ns) (omega arith) in
+      sym all ∙ (sym past ∙ place_first c chain)
+
+  pub avoiding_lowest : (c : List ℕ) → InnerPlace t a c None → lowest t left a walked ≡ avoiding c t left a walked
+  avoiding_lowest c none = ⊎_elim (avoiding_passes c none) (avoiding_broken c) (cases_Bool (is_chain t c))
 
   -- at the account that a line of the chain leaves
   module _ (front : List ℕ) (n : ℕ) where

@@ -1,6 +1,7 @@
-pub mod OpenLines
+pub mod LowestOf
 pub mod Widening
 pub mod Amounts
+pub mod Least
 pub mod Sourcing
 pub mod Following
 pub mod Walking

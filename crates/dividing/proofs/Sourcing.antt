@@ -1,97 +1,93 @@
--- The lowest origin that has an open line, line by line. Assumes nothing.
---   Lowest   the lowest such account over the lines below a number
-use Rattle.std.proofs.Common.{◌≡◌, ℕ, suc, ◌+◌, ◌<◌, ◌≤◌, true, List, length, get_or, sym, ◌∙◌, subst, ⊎_elim, arith}
-use Rattle.std.proofs.lemmas.Bool.{both_ways, cases_Bool, cases_eq, cases_lt}
+-- The lowest origin that has an open line, over all lines. Assumes nothing.
+--   source_at   the account that a line leaves, where the line has tonnes left and no line enters the account
+use Rattle.std.proofs.Common.{◌≡◌, ℕ, suc, ◌<◌, Bool, true, false, cond, not, ◌&&◌, ltb, min, List, Some, None, Option, MatchOption, length, get_or, sym, ap, ◌∙◌, subst, ⊎_elim, arith}
+use Rattle.std.proofs.lemmas.Bool.{and_from, and_parts, both_ways, cases_Bool, cases_lt, cond-true, cond-false, lt-ltb, ltb-true, not-true, not_from_false}
+use Rattle.std.specs.List.{filter_map, range_with_len, reduce}
 use Rattle.book.proofs.Balance.{touched, touching}
-use Rattle.book.specs.Limits.{accounts}
 use Rattle.book.specs.Tally.{Tally, at, is_live, WellFormed}
-use Rattle.book.specs.Totals.{any, enters, leaves, in_total}
-use Rattle.book.specs.declared.table.Side.TheVariants.{In, Out}
-use Rattle.dividing.specs.Sources.{LowestSource, SourceOf}
+use Rattle.book.specs.Totals.{any, enters, in_total}
+use Rattle.book.specs.declared.table.Side.TheVariants.{In}
+use Rattle.dividing.proofs.Least.{NoneOf, LeastOf, reduce_least}
+use Rattle.dividing.specs.Sources.{NextSource, SourceOf}
 use Rattle.flow.proofs.ChainFacts.{leaves_from, leaves_own, leaves_some, leaves_within}
 use Rattle.flow.proofs.RuleLaws.{open_from, open_leaves, open_some}
 use Rattle.flow.proofs.Sums.{false_unless}
 use Rattle.flow.proofs.Walks.{Fair, open_origin}
-use Rattle.flow.specs.Chains.{from_of, Origin}
-use Rattle.flow.specs.Rules.{Open}
-
-pub record Lowest (t : Tally) (left : List ℕ) (i a : ℕ) : Type 0 where
-  pub bound : (b k : ℕ) → k < i → b < accounts → Origin t b → Open t left b k → a ≤ b
-  pub found : a < accounts → Origin t a × ((n : ℕ) × Open t left a n)
-  pub within : a ≤ accounts
+use Rattle.flow.specs.Chains.{from_of}
 
 module _ (t : Tally) (left : List ℕ) where
-  pub source_spent : (n : ℕ) → get_or left n 0 ≡ 0 → SourceOf t left n accounts
-  source_spent n none = record {
-    bound = λ b lt origin opened. absurd (omega (arith, open_some t left b n opened));
-    found = λ lt. absurd (omega arith);
-    within = omega arith;
-  }
+  pub source_entered : (n from : ℕ) → from ≡ from_of (at t n) → 0 < in_total t from → SourceOf t left n None
+  source_entered n from is some b origin opened =
+      let same : from ≡ b = is ∙ leaves_from b (at t n) (open_leaves t left b n opened) in
+      both_ways (any (enters b) t) origin.unentered (touching In b t (subst (λ a. 0 < in_total t a) same some))
 
-  pub source_entered : (n from : ℕ) → from ≡ from_of (at t n) → 0 < in_total t from → SourceOf t left n accounts
-  source_entered n from is some = record {
-    bound = λ b lt origin opened.
-        let same : from ≡ b = is ∙ leaves_from b (at t n) (open_leaves t left b n opened) in
-        absurd (both_ways (any (enters b) t) origin.unentered (touching In b t (subst (λ a. 0 < in_total t a) same some)));
-    found = λ lt. absurd (omega arith);
-    within = omega arith;
-  }
+  module _ (well : WellFormed t) (fair : Fair t left) where
+    some_live : (n : ℕ) → 0 < get_or left n 0 → is_live (at t n) ≡ true
+    some_live n some = ⊎_elim (λ live. live) (λ struck. absurd (omega (arith, fair.spent n struck))) (cases_Bool (is_live (at t n)))
 
-  some_live : Fair t left → (n : ℕ) → 0 < get_or left n 0 → is_live (at t n) ≡ true
-  some_live fair n some = ⊎_elim (λ live. live) (λ struck. absurd (omega (arith, fair.spent n struck))) (cases_Bool (is_live (at t n)))
+    origin_open : (n : ℕ) → 0 < get_or left n 0 → any (enters (from_of (at t n))) t ≡ false → SourceOf t left n (Some (from_of (at t n)))
+    origin_open n some unentered =
+        let from = from_of (at t n) in
+        let out = leaves_own (at t n) (some_live n some) in
+        (record { left = leaves_some t from n out; unentered = unentered }, open_from t left from n out some)
 
-  pub source_found : WellFormed t → Fair t left → (n from : ℕ) → from ≡ from_of (at t n) → from < accounts → in_total t from ≡ 0 → 0 < get_or left n 0 → SourceOf t left n from
-  source_found well fair n from is placed none some =
-      let live = some_live fair n some in
-      let out : leaves from (at t n) ≡ true = subst (λ a. leaves a (at t n) ≡ true) (sym is) (leaves_own (at t n) live) in
-      record {
-        bound = λ b lt origin opened. omega (arith, is, leaves_from b (at t n) (open_leaves t left b n opened));
-        found = λ lt. (
-          record {
-            left = leaves_some t from n out;
-            unentered = false_unless (any (enters from) t) (λ entered. omega (arith, (touched In from t well.1 entered).0));
-          },
-          open_from t left from n out some,
-        );
-        within = omega arith;
-      }
+    pub source_found : (n from : ℕ) → from ≡ from_of (at t n) → in_total t from ≡ 0 → 0 < get_or left n 0 → SourceOf t left n (Some from)
+    source_found n from is none some =
+        let unentered = false_unless (any (enters from) t) (λ entered. omega (arith, (touched In from t well.1 entered).0)) in
+        subst (λ a. SourceOf t left n (Some a)) (sym is) (origin_open n some (subst (λ a. any (enters a) t ≡ false) is unentered))
 
-  pub lowest_none : Lowest t left 0 accounts
-  lowest_none = record { bound = λ b k lt placed. absurd (omega arith); found = λ lt. absurd (omega arith); within = omega arith }
+    abbrev begins : ℕ → Bool
+    begins n = ltb 0 (get_or left n 0) && not (any (enters (from_of (at t n))) t)
 
-  module _ (i a s : ℕ) (so : Lowest t left i a) (here : SourceOf t left i s) where
-    pub lowest_lower : s < a → Lowest t left (i + 1) s
-    lowest_lower lower = record {
-      bound = λ b k lt placed origin opened. ⊎_elim (λ same. here.bound b placed origin (subst (Open t left b) same opened)) (λ other. omega (arith, so.bound b k (omega arith) placed origin opened)) (cases_eq k i);
-      found = λ lt. let f = here.found lt in (f.0, (i, f.1));
-      within = here.within;
-    }
+    abbrev pub source_at : ℕ → Option ℕ
+    source_at n = cond (begins n) (Some (from_of (at t n))) None
 
-    pub lowest_same : a ≤ s → Lowest t left (i + 1) a
-    lowest_same lower = record {
-      bound = λ b k lt placed origin opened. ⊎_elim (λ same. omega (arith, here.bound b placed origin (subst (Open t left b) same opened))) (λ other. so.bound b k (omega arith) placed origin opened) (cases_eq k i);
-      found = so.found;
-      within = so.within;
-    }
+    pub source_is : (n : ℕ) (r : Option ℕ) → SourceOf t left n r → r ≡ source_at n
+    source_is n None none =
+        sym (cond-false (begins n) _ _ (false_unless (begins n) (λ yes.
+        let both = and_parts (ltb 0 (get_or left n 0)) (not (any (enters (from_of (at t n))) t)) yes in
+        let source = origin_open n (ltb-true 0 (get_or left n 0) both.0) (not-true (any (enters (from_of (at t n))) t) both.1) in
+        none (from_of (at t n)) source.0 source.1)))
+    source_is n (Some a) (origin, opened) =
+        let same : from_of (at t n) ≡ a = leaves_from a (at t n) (open_leaves t left a n opened) in
+        let unentered : any (enters (from_of (at t n))) t ≡ false = ap (λ b. any (enters b) t) same ∙ origin.unentered in
+        let yes = and_from (ltb 0 (get_or left n 0)) (not (any (enters (from_of (at t n))) t)) (lt-ltb 0 (get_or left n 0) (open_some t left a n opened)) (not_from_false (any (enters (from_of (at t n))) t) unentered) in
+        sym (cond-true (begins n) _ _ yes ∙ ap Some same)
 
-  module _ (well : WellFormed t) (a : ℕ) (so : Lowest t left (length t) a) where
-    origin_within : (b : ℕ) → Origin t b → b < accounts
-    origin_within b origin = (touched Out b t well.1 origin.left).1
+    source_from : (n a : ℕ) → source_at n ≡ Some a → SourceOf t left n (Some a)
+    source_from n a gave =
+        ⊎_elim
+        (λ yes.
+        let both = and_parts (ltb 0 (get_or left n 0)) (not (any (enters (from_of (at t n))) t)) yes in
+        let one = cond-true (begins n) (Some (from_of (at t n))) None yes in
+        let same : from_of (at t n) ≡ a = cc in
+        subst (λ b. SourceOf t left n (Some b)) same (origin_open n (ltb-true 0 (get_or left n 0) both.0) (not-true (any (enters (from_of (at t n))) t) both.1)))
+        (λ no. let none = cond-false (begins n) (Some (from_of (at t n))) None no in absurd cc)
+        (cases_Bool (begins n))
 
-    low : (b n : ℕ) → Origin t b → Open t left b n → a ≤ b
-    low b n origin opened = so.bound b n (leaves_within t b n (open_leaves t left b n opened)) (origin_within b origin) origin opened
-
-    pub lowest-found : (a ≡ accounts → ⊥) → LowestSource t left a
-    lowest-found some =
-        let f = so.found (omega (arith, so.within, some)) in
-        record { origin = f.0; some_open = f.1; lowest = λ b n lt origin opened. omega (arith, low b n origin opened) }
-
-    pub lowest_nothing : Fair t left → a ≡ accounts → (n : ℕ) → get_or left n 0 ≡ 0
-    lowest_nothing fair none n =
+    -- over all lines
+    all_sources : (r : Option ℕ) → MatchOption r (NoneOf source_at 0 (length t)) (LeastOf source_at 0 (length t)) → NextSource t left r
+    all_sources None none =
+        λ n.
         ⊎_elim
         (λ some.
-        let live = some_live fair n some in
-        let from = open_origin t left well fair (suc (from_of (at t n))) n (omega arith) live some in
-        absurd (omega (arith, low from.0 from.1 from.2 from.3, origin_within from.0 from.2)))
+        let from = open_origin t left well fair (suc (from_of (at t n))) n (omega arith) (some_live n some) some in
+        let m = from.1 in
+        let gave = none m (omega arith) (omega (arith, leaves_within t from.0 m (open_leaves t left from.0 m from.3))) in
+        let one = source_is m (Some from.0) (from.2, from.3) in
+        absurd cc)
         (λ nothing. omega arith)
         (cases_lt 0 (get_or left n 0))
+    all_sources (Some a) least =
+        let f = least.found in
+        let source = source_from f.0 a f.3 in
+        record {
+          origin = source.0;
+          some_open = (f.0, source.1);
+          lowest = λ b n lt origin opened.
+              omega (arith, least.bound n b (omega arith) (omega (arith, leaves_within t b n (open_leaves t left b n opened))) (sym (source_is n (Some b) (origin, opened))));
+        }
+
+    pub next_is : (n : ℕ) (r : Option ℕ) → n ≡ length t → r ≡ reduce min (filter_map source_at (range_with_len 0 n)) → NextSource t left r
+    next_is n r long is =
+        subst (NextSource t left) (sym (is ∙ ap (λ k. reduce min (filter_map source_at (range_with_len 0 k))) long)) (all_sources _ (reduce_least source_at (length t) 0))

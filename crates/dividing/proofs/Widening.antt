@@ -1,6 +1,6 @@
 -- The widest open line among the first lines of a book. Assumes nothing.
 --   Best   of the lines below a number, the open line with most tonnes left, the lowest among equals
-use Rattle.std.proofs.Common.{◌≡◌, ℕ, ◌+◌, ◌<◌, ◌≤◌, Bool, true, false, not, ◌&&◌, ltb, ◌⊎◌, List, length, get_or, sym, refl, ap, ◌∙◌, subst, inl, inr, ⊎_elim, arith}
+use Rattle.std.proofs.Common.{◌≡◌, ℕ, ◌+◌, ◌<◌, ◌≤◌, Bool, true, false, not, ◌&&◌, ltb, ◌⊎◌, List, length, get_or, sym, ap, ◌∙◌, subst, inl, inr, ⊎_elim, arith}
 use Rattle.std.proofs.lemmas.Bool.{and_from, and_parts, both_ways, cases_eq, lt-ltb, ltb-true, not_from_false, not-true}
 use Rattle.book.proofs.Search.{lowest_of_first, some_of_true, some_of_false}
 use Rattle.book.specs.Tally.{Tally, at}
@@ -9,7 +9,7 @@ use Rattle.flow.proofs.RuleLaws.{open_from, open_leaves, open_some}
 use Rattle.flow.proofs.ChainFacts.{leaves_within}
 use Rattle.flow.proofs.Sums.{false_unless}
 use Rattle.flow.specs.Rules.{is_open, Open, is_exceeded, widest}
-use Rattle.dividing.proofs.OpenLines.{lowest_of_none}
+use Rattle.dividing.proofs.LowestOf.{lowest_of_none}
 
 pub record First (t : Tally) (left : List ℕ) (a i best most : ℕ) : Type 0 where
   pub below : best < i
@@ -22,22 +22,19 @@ pub record Best (t : Tally) (left : List ℕ) (a i best most : ℕ) : Type 0 whe
   pub found : ((best ≡ 0) × (most ≡ 0)) ⊎ First t left a i best most
 
 module _ (t : Tally) (left : List ℕ) (a : ℕ) where
-  pub best_none : Best t left a 0 0 0
-  best_none = record { bound = λ k lt opened. absurd (omega arith); found = inl (refl, refl) }
-
   pub best_same : (i best most : ℕ) → Best t left a i best most → (Open t left a i → get_or left i 0 ≤ most) → Best t left a (i + 1) best most
   best_same i best most so here = record {
     bound = λ k lt opened. ⊎_elim (λ same. omega (arith, ap (λ j. get_or left j 0) same, here (subst (Open t left a) same opened))) (λ other. so.bound k (omega arith) opened) (cases_eq k i);
     found = ⊎_elim (λ none. inl none) (λ f. inr (record { below = omega (arith, f.below); opened = f.opened; tonnes = f.tonnes; first = f.first })) so.found;
   }
 
-  pub best_more : (i best most : ℕ) → Best t left a i best most → leaves a (at t i) ≡ true → most < get_or left i 0 → Best t left a (i + 1) i (get_or left i 0)
-  best_more i best most so out more = record {
+  pub best_more : (i best most tonnes : ℕ) → tonnes ≡ get_or left i 0 → Best t left a i best most → leaves a (at t i) ≡ true → most < tonnes → Best t left a (i + 1) i tonnes
+  best_more i best most tonnes is so out more = record {
     bound = λ k lt opened. ⊎_elim (λ same. omega (arith, ap (λ j. get_or left j 0) same)) (λ other. omega (arith, so.bound k (omega arith) opened)) (cases_eq k i);
     found = inr (record {
       below = omega arith;
       opened = open_from t left a i out (omega arith);
-      tonnes = refl;
+      tonnes = sym is;
       first = λ k lt opened. omega (arith, so.bound k lt opened);
     });
   }

@@ -3,20 +3,21 @@ ghost use Rattle.std.specs.Prelude.{◌≡◌, ℕ, ◌<◌, ◌≤◌, List, []
 ghost use Rattle.book.specs.Lines.{lines};
 ghost use Rattle.book.specs.Tally.{Tally};
 ghost use Rattle.flow.specs.Chains.{longest_chain, runs, is_chain};
-ghost use Rattle.flow.specs.Rules.{turn, avoiding};
+ghost use Rattle.flow.specs.Rules.{avoiding};
 ghost use Rattle.flow.proofs.RuleLaws.{law_avoiding};
+ghost use Rattle.dividing.specs.Places.{InnerPlace};
 
-use crate::open::{line_leaves, lowest_open, lowest_other, tonnes_on};
+use crate::open::{OpenLines, line_leaves};
 use crate::rules::Rule;
 use book::{Book, MOST_LINES};
 use chains::{LONGEST_CHAIN, parts};
 
-// The chain is the first `count` of the lines held.
+// The chain is the first `count` of the lines held. An array with a count beside it, since this rule can be copied, which the toolchain's vector of
+// fixed room cannot.
 #[derive(Clone, Copy)]
 pub struct Avoiding {
     chain: [u16; LONGEST_CHAIN],
     count: usize,
-    ghost whole: { length chain ≡ longest_chain },
     ghost short: { count ≤ longest_chain },
 }
 
@@ -35,7 +36,7 @@ impl Avoiding {
                 count: 0,
             };
         }
-        put_lines(&mut held, chain);
+        held[0..count].copy_from_slice(chain);
         Avoiding { chain: held, count }
     }
 }
@@ -46,61 +47,42 @@ impl Rule for Avoiding {
     ghost keeps = { λ rule. law_avoiding (take rule.count rule.chain) };
 
     fn name(&self, book: &Book, left: &[u32; MOST_LINES], account: u8, walked: &[u16]) -> u16 {
-        avoid(book, left, account, walked, &self.chain[0..self.count])
+        let here = OpenLines {
+            book,
+            left,
+            account,
+        };
+        avoid(&here, walked, &self.chain[0..self.count])
     }
 }
 
-fn put_lines(held: &mut [u16; LONGEST_CHAIN], chain: &[u16])
-    requires { length chain.now ≤ longest_chain }
-    ensures { take (length chain.now) held.new ≡ chain.now }
+fn avoid(here: &OpenLines<'_>, walked: &[u16], chain: &[u16]) -> u16
+    ensures { result ≡ avoiding chain.now (lines here.now.book.now) here.now.left.now here.now.account walked.now }
 {
-    let count = chain.len();
-    held[0..count].copy_from_slice(chain);
+    match inner_place(here.book, here.account, chain) {
+        Some(i) if walked.ends_with(&chain[0..i]) => here.lowest_other(chain[i]),
+        Some(i) if here.tonnes_on(chain[i]) > 0 => chain[i],
+        _ => here.lowest(),
+    }
 }
 
-fn avoid(book: &Book, left: &[u32; MOST_LINES], account: u8, walked: &[u16], chain: &[u16]) -> u16
-    ensures { result ≡ avoiding chain.now (lines book.now) left.now account walked.now }
+// The place of the line that leaves the account, among the lines of a chain behind the first; none where they are no chain of the book.
+fn inner_place(book: &Book, account: u8, chain: &[u16]) -> Option<usize>
+    ensures { InnerPlace (lines book.now) account chain.now result }
 {
     if !is_chain(book, chain) {
-        return lowest_open(book, left, account);
+        return None;
     }
-    for i in 1..chain.len() {
-        let (from, _, _) = parts(book, chain[i]);
-        if from == account {
-            return turn(book, left, account, walked, &chain[0..i], chain[i]);
-        }
-    }
-    lowest_open(book, left, account)
-}
-
-// At the account that a line of the chain leaves, by the lines of the chain before it.
-fn turn(
-    book: &Book,
-    left: &[u32; MOST_LINES],
-    account: u8,
-    walked: &[u16],
-    front: &[u16],
-    line: u16,
-) -> u16
-    ensures { result ≡ turn front.now line (lines book.now) left.now account walked.now }
-{
-    if walked.ends_with(front) {
-        return lowest_other(book, left, account, line);
-    }
-    if tonnes_on(left, line) > 0 {
-        return line;
-    }
-    lowest_open(book, left, account)
+    (1..chain.len()).find(|i| parts(book, chain[*i]).from == account)
 }
 
 fn is_chain(book: &Book, chain: &[u16]) -> bool
     ensures { result ≡ is_chain (lines book.now) chain.now }
 {
-    if chain.len() == 0 || chain.len() > LONGEST_CHAIN {
+    let [first, ..] = chain else {
         return false;
-    }
-    let (from, _, _) = parts(book, chain[0]);
-    runs_on(book, from, chain)
+    };
+    chain.len() <= LONGEST_CHAIN && runs_on(book, parts(book, *first).from, chain)
 }
 
 // Whether the lines run on from the account: each leaves the account that the one before it enters.
@@ -108,12 +90,11 @@ fn runs_on(book: &Book, start: u8, chain: &[u16]) -> bool
     ensures { result ≡ runs (lines book.now) start chain.now }
 {
     let mut account = start;
-    for i in 0..chain.len() {
-        if !line_leaves(book, chain[i], account) {
+    for line in chain {
+        if !line_leaves(book, *line, account) {
             return false;
         }
-        let (_, to, _) = parts(book, chain[i]);
-        account = to;
+        account = parts(book, *line).to;
     }
     true
 }

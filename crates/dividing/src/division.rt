@@ -1,35 +1,35 @@
-// Dividing a book under a rule into the tables.
+// Dividing a book under a rule into the tables: two slices side by side, lent by the caller, since dividing takes no heap and their format is agreed.
 ghost use Rattle.std.specs.Prelude.{◌≡◌, ◌≤◌, length};
 ghost use Rattle.book.specs.Lines.{lines};
 ghost use Rattle.book.specs.Outcome.{Outcome};
+ghost use Rattle.book.specs.Tally.{WellFormed};
 ghost use Rattle.book.specs.Totals.{Balanced};
 ghost use Rattle.chains.specs.Faults.{checked};
 ghost use Rattle.dividing.specs.Filling.{Filled, Answered};
 ghost use Rattle.dividing.specs.Tables.{table_entries, table_tonnes, divide_stopped};
 
-use crate::left::all_amounts;
-use crate::rows::put_numbered;
 use crate::rules::Rule;
-use crate::sources::next_source;
+use crate::state::Division;
 use crate::tables::check_tables;
-use book::Book;
+use book::{Book, MOST_LINES};
 use chains::{Fault, check_balance};
 
-// Writes the rows of the dividing into the tables, and answers how many there are.
+// Writes the rows of the dividing into the tables, and answers how many there are: one for each line of a book at most. The loop counts rows and
+// not entries: a row's number is where it stands in both tables, and the last number is what is answered.
 pub fn fill<R: Rule>(book: &Book, rule: &R, rows: &mut [u16], tonnes: &mut [u32]) -> usize
     requires room { (table_entries ≤ length rows.old) × (table_tonnes ≤ length tonnes.old) }
+    requires sound { WellFormed (lines book.now) }
     requires balanced { Balanced (lines book.now) }
     ensures { Filled (R.choice rule.now) (lines book.now) rows.old tonnes.old result rows.new tonnes.new }
 {
-    let ins = book.in_totals();
-    let outs = book.out_totals();
-    let mut left = all_amounts(book);
-    let mut count = 0;
-    while let Some(start) = next_source(book, &ins, &left) {
-        tonnes[count] = put_numbered(book, rule, &outs, start, &mut left, count, rows);
-        count += 1;
+    let mut division = Division::new(book, rule);
+    for number in 0..MOST_LINES {
+        let Some(weight) = division.put_numbered(number, rows) else {
+            return number;
+        };
+        tonnes[number] = weight;
     }
-    count
+    MOST_LINES
 }
 
 // Divides a balanced book under the rule into the tables, and answers how many rows there are.

@@ -9,18 +9,15 @@ ghost use Rattle.flow.specs.Dividing.{amounts, off};
 
 use book::{Book, MOST_LINES};
 use chains::parts;
+use std::array::from_fn;
 
-// The amount of each line; 0 where the line is not live.
+// The amount of each line; 0 where the line is not live. Every book is well-formed, which its own calls promise: this function, Division::new and fill
+// require it, and from there on the division's ghost field carries it.
 pub fn all_amounts(book: &Book) -> [u32; MOST_LINES]
-    ensures amounts { result ≡ amounts (lines book.now) }
-    ensures sound { WellFormed (lines book.now) }
+    requires { WellFormed (lines book.now) }
+    ensures { result ≡ amounts (lines book.now) }
 {
-    let mut left = [0u32; MOST_LINES];
-    for n in 0..book.len() {
-        let (_, _, amount) = parts(book, n as u16);
-        left[n] = amount;
-    }
-    left
+    from_fn(|n| parts(book, n as u16).amount)
 }
 
 // Takes tonnes off each line of a row, whose lines differ and bear so many.
@@ -28,10 +25,7 @@ pub fn take_off(left: &mut [u32; MOST_LINES], tonnes: u32, row: &[u16])
     requires { (Apart row.now) × (AllByRecursion (Bears left.old tonnes) row.now) }
     ensures { left.new ≡ off left.old tonnes row.now }
 {
-    let mut i = row.len();
-    while i > 0 {
-        i -= 1;
-        let n = row[i] as usize;
-        left[n] -= tonnes;
+    for line in row {
+        left[*line as usize] -= tonnes;
     }
 }

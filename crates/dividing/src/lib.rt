@@ -7,9 +7,8 @@ mod left;
 mod lowest;
 mod open;
 mod opposing;
-mod rows;
 mod rules;
-mod sources;
+mod state;
 mod tables;
 mod widest;
 

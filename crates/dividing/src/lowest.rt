@@ -2,7 +2,7 @@
 ghost use Rattle.flow.specs.Rules.{lowest};
 ghost use Rattle.flow.proofs.RuleLaws.{law_lowest};
 
-use crate::open::lowest_open;
+use crate::open::OpenLines;
 use crate::rules::Rule;
 use book::{Book, MOST_LINES};
 
@@ -15,6 +15,11 @@ impl Rule for Lowest {
     ghost keeps = { λ rule. law_lowest };
 
     fn name(&self, book: &Book, left: &[u32; MOST_LINES], account: u8, _walked: &[u16]) -> u16 {
-        lowest_open(book, left, account)
+        OpenLines {
+            book,
+            left,
+            account,
+        }
+        .lowest()
     }
 }

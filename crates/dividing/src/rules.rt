@@ -5,7 +5,8 @@ ghost use Rattle.flow.specs.Rules.{Choice, Law};
 
 use book::{Book, MOST_LINES};
 
-// A rule is told the book, the tonnes left on each of its lines, an account and the lines walked so far, and names one line.
+// A rule is told the book, the tonnes left on each of its lines, an account and the lines walked so far, and names one line. It is told them one by one: a
+// struct of them would ask more of whoever adds a rule.
 // Its meaning is that choice. Its law: whenever some live line leaving the account has tonnes left, the line named is such a line.
 pub trait Rule {
     ghost choice: { Self → Choice };

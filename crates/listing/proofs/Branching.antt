@@ -173,37 +173,31 @@ module _ (t : Tally) (w : ℕ) (well : WellFormed t) (balanced : Balanced t) (so
     growth_short m r found =
         omega (arith, chain_short t (take k given ++ m ∷ []) (growth_comes m r found).certain.0, length_push (take k given) m, length-take-le k given opened.within)
 
--- the same for a list that is the first numbers of a longer one
-pub front_held : (t : Tally) (w : ℕ) → WellFormed t → Balanced t → 0 < w → (ns : List ℕ) (count k i : ℕ) (r : Option Reach) → count ≤ length ns → Open t w (take count ns) k → Front t w (take k ns) i r → Reached t w (take k (take count ns)) r
-front_held t w well balanced some ns count k i r within opened f =
-    let same : take k (take count ns) ≡ take k ns = take-take k count ns (omega (arith, opened.within, length-take-le count ns within)) in
-    front_whole t w well balanced some (take count ns) k i r opened (subst (λ z. Front t w z i r) (sym same) f)
-
 -- a certain chain is open as a whole, and goes on by its own growth
-module _ (t : Tally) (w : ℕ) (well : WellFormed t) (balanced : Balanced t) (some : 0 < w) (c : List ℕ) (n : ℕ) (r : Reach) (all : n ≡ length c) (comes : Comes t w c r) where
-  whole-list : take n c ≡ c
-  whole-list = take_all n c (omega arith)
+module _ (t : Tally) (w : ℕ) (well : WellFormed t) (balanced : Balanced t) (some : 0 < w) (c : List ℕ) (r : Reach) (comes : Comes t w c r) where
+  whole-list : take (length c) c ≡ c
+  whole-list = take_all (length c) c (omega arith)
 
-  whole_open : Open t w c n
+  whole_open : Open t w c (length c)
   whole_open = record {
     within = omega arith;
     certain = λ _. subst (CertainChain t w) (sym whole-list) comes.certain;
     barren = λ inside. absurd (omega arith);
   }
 
-  whole_reached : Reached t w (take n c) (Some r)
+  whole_reached : Reached t w (take (length c) c) (Some r)
   whole_reached = subst (λ z. Comes t w z r) (sym whole-list) comes
 
-  whole-lowest : 0 ≡ lowest_after c n
-  whole-lowest = sym (lowest-end c n (omega arith) (omega arith))
+  whole-lowest : 0 ≡ lowest_after c (length c)
+  whole-lowest = sym (lowest-end c (length c) (omega arith) (omega arith))
 
-  pub whole_grows : (m : ℕ) (more : Reach) → FirstGrown t w (Some r) 0 (Some (m, more)) → Found t w c (take n c ++ m ∷ []) more
-  whole_grows = growth_found t w well balanced some c n 0 (Some r) whole_open whole_reached whole-lowest
+  pub whole_grows : (m : ℕ) (more : Reach) → FirstGrown t w (Some r) 0 (Some (m, more)) → Found t w c (c ++ m ∷ []) more
+  whole_grows m more first = subst (λ z. Found t w c (z ++ m ∷ []) more) whole-list (growth_found t w well balanced some c (length c) 0 (Some r) whole_open whole_reached whole-lowest m more first)
 
-  pub whole_short : (m : ℕ) (more : Reach) → FirstGrown t w (Some r) 0 (Some (m, more)) → n < longest_chain
-  whole_short = growth_short t w well balanced some c n 0 (Some r) whole_open whole_reached whole-lowest
+  pub whole_short : (m : ℕ) (more : Reach) → FirstGrown t w (Some r) 0 (Some (m, more)) → length c < longest_chain
+  whole_short = growth_short t w well balanced some c (length c) 0 (Some r) whole_open whole_reached whole-lowest
 
-  pub whole-stops : FirstGrown t w (Some r) 0 None → 0 < n → Open t w c (n - 1)
+  pub whole-stops : FirstGrown t w (Some r) 0 None → 0 < length c → Open t w c (length c - 1)
   whole-stops none long =
-      let up : n ≡ n - 1 + 1 = omega arith in
-      open_below t w well balanced some c (n - 1) (subst (Open t w c) up whole_open) (subst (Barren t w c) up (growth_none t w well balanced some c n 0 (Some r) whole_open whole_reached whole-lowest none))
+      let up : length c ≡ length c - 1 + 1 = omega arith in
+      open_below t w well balanced some c (length c - 1) (subst (Open t w c) up whole_open) (subst (Barren t w c) up (growth_none t w well balanced some c (length c) 0 (Some r) whole_open whole_reached whole-lowest none))

@@ -1,3 +1,4 @@
+pub mod Ranges
 pub mod Growing
 pub mod Branching
 pub mod Leftward

@@ -1,9 +1,10 @@
 -- What next answers. Assumes nothing.
 --   row_entries    a row needs so many entries
 --   next_stopped   the stops of next, read one after the other: the floor, the row, the length, the balance
+--   after_stopped  the stops of next_after, which needs no row
 --   Answered       found: the first greatest certain chain after the given list stands at the start of the row, with its length and figure;
 --                  done: none stands after it, and the row is as it was; a refusal leaves the row
-use Rattle.std.specs.Prelude.{◌≡◌, ℕ, List, [], ◌∷◌, length, take, Ok, Err, Result, ◌==◌, nat_lt}
+use Rattle.std.specs.Prelude.{◌≡◌, ℕ, List, [], ◌∷◌, length, take, Some, None, Option, Ok, Err, Result, ◌==◌, nat_lt}
 use Rattle.book.specs.Outcome.{chain, Outcome, stop, stopped}
 use Rattle.book.specs.Overlay.{over}
 use Rattle.book.specs.Tally.{Tally}
@@ -13,16 +14,18 @@ use Rattle.chains.specs.declared.faults.Fault.{Fault}
 use Rattle.flow.specs.Chains.{longest_chain}
 use Rattle.flow.specs.Excess.{figure}
 use Rattle.flow.specs.Listing.{FirstAfter, NoneAfter}
-use Rattle.listing.specs.declared.nexts.Next.{Next}
-use Rattle.listing.specs.declared.nexts.Next.TheVariants.{Found, Done}
+use Rattle.listing.specs.Picks.{request_stops}
 
 abbrev pub row_entries : ℕ
 row_entries = longest_chain
 
 abbrev pub next_stopped : Tally → ℕ → ℕ → ℕ → Outcome → Outcome
 next_stopped t floor entries length o =
-    stopped (stop (floor == 0) chain 11 [] ∷ stop (nat_lt entries row_entries) chain 10 [] ∷ stop (nat_lt longest_chain length) chain 8 (length ∷ []) ∷ [])
-    (stopped (balance_stops t) o)
+    stopped (request_stops floor entries length) (stopped (balance_stops t) o)
+
+abbrev pub after_stopped : Tally → ℕ → ℕ → Outcome → Outcome
+after_stopped t floor length o =
+    stopped (stop (floor == 0) chain 11 [] ∷ stop (nat_lt longest_chain length) chain 8 (length ∷ []) ∷ []) (stopped (balance_stops t) o)
 
 pub record First (t : Tally) (floor : ℕ) (given : List ℕ) (length_told figure_told : ℕ) (row row_after : List ℕ) : Type 0 where
   pub listed : List ℕ
@@ -32,7 +35,7 @@ pub record First (t : Tally) (floor : ℕ) (given : List ℕ) (length_told figur
   pub agreed : Agreed t listed
   pub placed : row_after ≡ over row listed
 
-abbrev pub Answered : Tally → ℕ → ℕ → List ℕ → Result Next Fault → List ℕ → Type 0
-Answered t floor n row (Ok (Found p)) row_after = First t floor (take n row) p.0 p.1 row row_after
-Answered t floor n row (Ok Done) row_after = NoneAfter t floor (take n row) × (row_after ≡ row)
+abbrev pub Answered : Tally → ℕ → ℕ → List ℕ → Result (Option (ℕ × ℕ)) Fault → List ℕ → Type 0
+Answered t floor n row (Ok (Some p)) row_after = First t floor (take n row) p.0 p.1 row row_after
+Answered t floor n row (Ok None) row_after = NoneAfter t floor (take n row) × (row_after ≡ row)
 Answered t floor n row (Err e) row_after = row_after ≡ row

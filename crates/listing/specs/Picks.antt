@@ -2,14 +2,13 @@
 --   request_stops   the stops of next that need no book
 --   Picked          the first greatest certain chain after a list, with its figure; or there is none
 use Rattle.std.specs.Prelude.{◌≡◌, ℕ, List, [], ◌∷◌, Some, None, Option, ◌==◌, nat_lt}
+use Rattle.arrayvec.specs.ArrayVec.{ArrayVec}
 use Rattle.book.specs.Outcome.{chain, Stop, stop}
 use Rattle.book.specs.Tally.{Tally}
 use Rattle.chains.specs.Certainty.{Agreed}
 use Rattle.flow.specs.Chains.{longest_chain}
 use Rattle.flow.specs.Excess.{figure}
 use Rattle.flow.specs.Listing.{FirstAfter, NoneAfter}
-use Rattle.listing.specs.Walks.{path}
-use Rattle.listing.specs.declared.walk.Walk.{Walk}
 
 abbrev pub request_stops : ℕ → ℕ → ℕ → List Stop
 request_stops floor entries length =
@@ -20,6 +19,6 @@ pub record Chosen (t : Tally) (floor : ℕ) (given c : List ℕ) (figure_told : 
   pub amount : figure_told ≡ figure t c
   pub agreed : Agreed t c
 
-abbrev pub Picked : Tally → ℕ → List ℕ → Option (Walk × ℕ) → Type 0
+abbrev pub Picked : Tally → ℕ → List ℕ → Option (ArrayVec ℕ × ℕ) → Type 0
 Picked t floor given None = NoneAfter t floor given
-Picked t floor given (Some p) = Chosen t floor given (path p.0) p.1
+Picked t floor given (Some p) = Chosen t floor given p.0.items p.1

@@ -2,13 +2,10 @@
 #![tactic(auto)]
 
 mod finding;
-mod greatest;
-mod nexts;
 mod reach;
-mod steps;
+mod search;
 mod walk;
 mod whole;
 
-pub use finding::next;
-pub use nexts::Next;
+pub use finding::{next, next_after};
 pub use whole::{ListFault, Listed, read_list};

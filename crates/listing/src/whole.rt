@@ -4,11 +4,12 @@ ghost use Rattle.book.specs.Lines.{lines};
 ghost use Rattle.book.specs.Outcome.{Outcome};
 ghost use Rattle.listing.specs.Nexts.{next_stopped, row_entries};
 ghost use Rattle.listing.specs.Wholes.{list_checked, Put, Whole};
+ghost use Rattle.listing.specs.declared.whole.ListFault.TheVariants.{Chain, NoMemory};
 
-use crate::finding::next;
-use crate::nexts::Next;
+use crate::finding::next_after;
+use crate::walk::Walk;
 use book::Book;
-use chains::{Fault, LONGEST_CHAIN};
+use chains::Fault;
 use std::alloc::{AllocError, Global};
 
 // A chain of the list, with its certain figure.
@@ -26,6 +27,22 @@ pub enum ListFault {
     NoMemory,
 }
 
+impl From<Fault> for ListFault {
+    ghost from_gives = { λ fault e. e ≡ Chain fault };
+
+    fn from(fault: Fault) -> ListFault {
+        ListFault::Chain(fault)
+    }
+}
+
+impl From<AllocError> for ListFault {
+    ghost from_gives = { λ _ e. e ≡ NoMemory };
+
+    fn from(_error: AllocError) -> ListFault {
+        ListFault::NoMemory
+    }
+}
+
 // Puts a chain, with its figure, behind the list.
 fn put(heap: Global, list: &mut Vec<Listed>, numbers: &[u16], figure: u64) -> Result<(), AllocError>
     ensures { OnOk result (Put list.old.items numbers.now figure list.new.items) }
@@ -35,26 +52,16 @@ fn put(heap: Global, list: &mut Vec<Listed>, numbers: &[u16], figure: u64) -> Re
     Ok(())
 }
 
-// Reads the list from its start to its end, by next from no lines on.
+// Reads the list from its start to its end, by next_after from no lines on.
 pub fn read_list(heap: Global, book: &Book, floor: u32) -> Result<Vec<Listed>, ListFault>
     ensures stop { (o : Outcome) → list_checked result o ≡ next_stopped (lines book.now) floor row_entries 0 o }
     ensures answer { IfOk result (λ v. Whole (lines book.now) floor v.items) }
 {
-    let mut row = [0u16; LONGEST_CHAIN];
-    let mut given = 0;
     let mut list = Vec::new(heap);
-    loop {
-        let answer = match next(book, floor, given, &mut row) {
-            Ok(answer) => answer,
-            Err(fault) => return Err(ListFault::Chain(fault)),
-        };
-        let (size, figure) = match answer {
-            Next::Found(found) => found,
-            Next::Done => return Ok(list),
-        };
-        if let Err(_) = put(heap, &mut list, &row[..size], figure) {
-            return Err(ListFault::NoMemory);
-        }
-        given = size;
+    let mut last = Walk::new();
+    while let Some((chain, figure)) = next_after(book, floor, &last)? {
+        put(heap, &mut list, &chain, figure)?;
+        last = chain;
     }
+    Ok(list)
 }

@@ -1,69 +1,62 @@
 // Cases: what one line of text asks of a book, and what is answered.
-use crate::changes::make_change;
-use crate::replies::Reply;
-use crate::rows::{print_laid_next, print_list, print_next};
-use crate::rules::{print_avoiding, print_named};
-use crate::tables::Tables;
-use crate::words::{line_numbers, next_number, next_word};
-use anyhow::anyhow;
+use crate::divisions::{Divided, fill_tables};
+use crate::lists::{List, listed};
+use crate::rows::{Stepped, laid_next, next_after_list};
+use crate::rules::{named, named_avoiding};
 use book::Book;
-use dividing::{Avoiding, Lowest, TABLE_ENTRIES, TABLE_TONNES, Widest, counter, divide};
-use std::str::SplitWhitespace;
+use case_words::{Change, Reply, Tables, Told, next_number, next_word};
+use dividing::{TABLE_ENTRIES, TABLE_TONNES};
+use std::alloc::Global;
+use std::fmt;
+
+#[derive(Drop)]
+pub enum Answered {
+    Told(Told),
+    Divided(Divided),
+    Stepped(Stepped),
+    List(List),
+    Named(u16),
+}
+
+impl fmt::Display for Answered {
+    fn fmt<W: fmt::Write>(&self, f: &mut fmt::Formatter<W>) -> fmt::Result {
+        match self {
+            Answered::Told(told) => write!(f, "{told}"),
+            Answered::Divided(divided) => write!(f, "{divided}"),
+            Answered::Stepped(stepped) => write!(f, "{stepped}"),
+            Answered::List(list) => write!(f, "{list}"),
+            Answered::Named(line) => write!(f, "{line}"),
+        }
+    }
+}
 
 // A question, `tables ENTRIES TONNES` before a question, the balance, or a change.
-pub fn print_case(rt: &HostRuntime, book: &mut Book, text: &str) -> anyhow::Result<()> {
+pub fn answer_case(heap: Global, book: &mut Book, text: &str) -> anyhow::Result<Answered> {
     let mut words = text.split_whitespace();
     match next_word(&mut words)? {
         "tables" => {
             let entries = next_number(&mut words)?;
             let tonnes = next_number(&mut words)?;
-            let tables = Tables::new(rt.alloc(), entries, tonnes)?;
+            let tables = Tables::new(heap, entries, tonnes)?;
             let name = next_word(&mut words)?;
-            print_rows(rt, book, name, words, tables)
+            fill_tables(heap, book, name, words, tables).map(Answered::Divided)
         }
-        "row" => print_laid_next(rt, book, words),
-        "next" => print_next(rt, book, words),
-        "list" => print_list(rt, book, next_number(&mut words)?),
-        "name" => print_named(rt, book, text),
-        "pass" => print_avoiding(rt, book, text),
+        "row" => laid_next(heap, book, words).map(Answered::Stepped),
+        "next" => next_after_list(heap, book, words).map(Answered::Stepped),
+        "list" => listed(heap, book, next_number(&mut words)?).map(Answered::List),
+        "name" => named(heap, book, text).map(Answered::Named),
+        "pass" => named_avoiding(heap, book, text).map(Answered::Named),
         "balance" => {
-            rt.println(Reply::of_balance(book.balance()))?;
-            Ok(())
+            let balance = book.balance().map(|_| Reply::Balanced);
+            Ok(Answered::Told(Told::from(balance)))
+        }
+        name @ ("divide" | "counter" | "avoid") => {
+            let tables = Tables::new(heap, TABLE_ENTRIES, TABLE_TONNES)?;
+            fill_tables(heap, book, name, words, tables).map(Answered::Divided)
         }
         name => {
-            if name == "divide" || name == "counter" || name == "avoid" {
-                let tables = Tables::new(rt.alloc(), TABLE_ENTRIES, TABLE_TONNES)?;
-                return print_rows(rt, book, name, words, tables);
-            }
-            rt.println(make_change(book, name, &mut words)?)?;
-            Ok(())
+            let change = Change::parse(name, &mut words)?;
+            Ok(Answered::Told(Told::from(change.make(book))))
         }
     }
-}
-
-// `divide RULE`, `counter CHAIN`, or `avoid LIST`: dividing under the rule that avoids the list
-fn print_rows(
-    rt: &HostRuntime,
-    book: &Book,
-    name: &str,
-    mut words: SplitWhitespace<'_>,
-    mut tables: Tables,
-) -> anyhow::Result<()> {
-    let answer = match name {
-        "divide" => match next_word(&mut words)? {
-            "0" => divide(book, &Lowest, &mut tables.rows, &mut tables.tonnes),
-            "1" => divide(book, &Widest, &mut tables.rows, &mut tables.tonnes),
-            _ => return Err(anyhow!("no such rule")),
-        },
-        "counter" => {
-            let chain = line_numbers(rt.alloc(), words)?;
-            counter(book, &chain, &mut tables.rows, &mut tables.tonnes)
-        }
-        "avoid" => {
-            let rule = Avoiding::new(&line_numbers(rt.alloc(), words)?);
-            divide(book, &rule, &mut tables.rows, &mut tables.tonnes)
-        }
-        _ => return Err(anyhow!("no such question")),
-    };
-    tables.print(rt, answer)
 }

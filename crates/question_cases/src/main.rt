@@ -2,39 +2,30 @@
 #![tactic(auto)]
 
 use book::Book;
-use cases::print_case;
+use case_words::reply_to;
+use cases::answer_case;
 use std::fs;
 
 mod cases;
-mod changes;
-mod replies;
+mod divisions;
+mod lists;
 mod rows;
 mod rules;
-mod tables;
-mod words;
 
 fn main(rt: HostRuntime) -> anyhow::Result<()> {
-    run(&rt)
+    for path in ["dividing.txt", "listing.txt", "avoiding.txt", "naming.txt"] {
+        print_cases(&rt, path)?;
+    }
+    Ok(())
 }
 
-fn run(rt: &HostRuntime) -> anyhow::Result<()> {
-    print_cases(rt, "dividing.txt")?;
-    print_cases(rt, "listing.txt")?;
-    print_cases(rt, "avoiding.txt")?;
-    print_cases(rt, "naming.txt")
-}
-
-// All cases of a file go to the same book. A heading is printed as it is.
+// All cases of a file go to the same book. This loop stands in each program of cases: in the library it would be told of a closure that changes the book, with a longer contract.
 fn print_cases(rt: &HostRuntime, path: &str) -> anyhow::Result<()> {
     let text = fs::read_to_string(rt, path)?;
     let mut book = Book::new();
     for line in text.as_str().lines() {
-        if line.starts_with("#") {
-            rt.println(line)?;
-        } else {
-            print!(rt; "{line} -> ")?;
-            print_case(rt, &mut book, line)?;
-        }
+        let replied = reply_to(line, |text| answer_case(rt.alloc(), &mut book, text))?;
+        rt.println(replied)?;
     }
     Ok(())
 }

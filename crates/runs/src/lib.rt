@@ -10,7 +10,7 @@ ghost use Rattle.runs.specs.Promise.{KeptPromise};
 use book::{Book, Call, Entry, Replayed};
 use std::alloc::{AllocError, Global};
 
-// Makes the calls, one after the other, on a clean book.
+// Makes the calls, one after the other, on a clean book. Two calls, as in `book`, and for the same reason: this one owns its answers and can want memory.
 pub fn replay(heap: Global, calls: &[Call]) -> Result<Replayed, AllocError>
     ensures { IfOk result (λ run. Tallied calls.now run × KeptPromise (tally [] calls.now)) }
 {

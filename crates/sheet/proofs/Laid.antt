@@ -1,8 +1,13 @@
 -- Bytes put on a page one after the other. Assumes nothing.
 use Rattle.std.proofs.Common.{◌≡◌, ℕ, ◌+◌, ◌≤◌, List, [], ◌++◌, length, take, drop, sym, ap, ◌∙◌, arith}
-use Rattle.std.proofs.lemmas.List.{append_assoc, length-append, length-take-le, take_at, drop_at, drop-drop, take-append-drop}
+use Rattle.std.proofs.lemmas.List.{append_assoc, length-append, length-take-le, length-drop, take_at, drop_at, drop-drop, take-append-drop}
 use Rattle.book.specs.Overlay.{laid, over}
 use Rattle.sheet.specs.Page.{Put}
+
+pub length-laid : (page : List ℕ) (at : ℕ) (a : List ℕ) → at + length a ≤ length page → length (laid page at a) ≡ length page
+length-laid page at a fits =
+    length-append (take at page) (a ++ drop (at + length a) page)
+    ∙ omega (arith, length-take-le at page (omega arith), length-append a (drop (at + length a) page), length-drop (at + length a) page)
 
 module _ (page : List ℕ) (at : ℕ) (a b : List ℕ) (fits : at + length a ≤ length page) where
   abbrev front : List ℕ
@@ -27,17 +32,19 @@ module _ (page : List ℕ) (at : ℕ) (a b : List ℕ) (fits : at + length a ≤
           ∙ (drop-drop (length b) (at + length a) page ∙ ap (λ n. drop n page) (omega (arith, length-append a b))))
 
 -- what is put right behind what was put
-pub put_then : (page : List ℕ) (at : ℕ) (a b : List ℕ) (p q : List ℕ) (r s : ℕ) → at + length a ≤ length page → Put page at a p r → Put p r b q s → Put page at (a ++ b) q s
-put_then page at a b p q r s fits one two = record {
-  page = two.page ∙ (ap (λ z. laid z r b) one.page ∙ (ap (λ k. laid (laid page at a) k b) one.place ∙ laid-laid page at a b fits));
+pub put_then : {page a b p q : List ℕ} {at r s : ℕ} → Put page at a p r → Put p r b q s → Put page at (a ++ b) q s
+put_then {page} {a} {b} {p} {q} {at} {r} {s} one two = record {
+  page = two.page ∙ (ap (λ z. laid z r b) one.page ∙ (ap (λ k. laid (laid page at a) k b) one.place ∙ laid-laid page at a b one.within));
   place = omega (arith, one.place, two.place, length-append a b);
+  within = omega (arith, one.place, two.within, ap length one.page ∙ length-laid page at a one.within, length-append a b);
 }
 
 pub over_from_put : (page bs p : List ℕ) (r : ℕ) → Put page 0 bs p r → (p ≡ over page bs) × (r ≡ length bs)
 over_from_put page bs p r put = (put.page ∙ ap (λ n. bs ++ drop n page) (omega arith), omega (arith, put.place))
 
-pub put_none : (page : List ℕ) (at : ℕ) → Put page at [] page at
-put_none page at = record {
+pub put_none : (page : List ℕ) (at : ℕ) → at ≤ length page → Put page at [] page at
+put_none page at within = record {
   page = sym (take-append-drop at page) ∙ ap (λ n. take at page ++ drop n page) (omega arith);
   place = omega arith;
+  within = omega arith;
 }

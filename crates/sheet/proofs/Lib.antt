@@ -6,3 +6,4 @@ pub mod Printing
 pub mod ListedLines
 pub mod Runs
 pub mod OneStatement
+pub mod FirstParts

@@ -1,21 +1,21 @@
 -- From a line put on the page to a step of the statement. Assumes nothing.
-use Rattle.std.proofs.Common.{◌≡◌, ℕ, ◌≤◌, false, List, [], ◌++◌, length, take, drop, sym, refl, ap, ◌∙◌, subst, arith}
-use Rattle.std.proofs.lemmas.List.{length-append, take_at}
-use Rattle.std.proofs.lemmas.Bool.{cond-false, or_from, le-ltb}
-use Rattle.book.specs.Outcome.{Outcome, answers}
+use Rattle.std.proofs.Common.{◌≡◌, ℕ, ◌<◌, ◌≤◌, Bool, true, false, cond, List, ◌++◌, length, take, drop, sym, refl, ap, ◌∙◌, subst, arith}
+use Rattle.std.proofs.lemmas.List.{take_at}
+use Rattle.std.proofs.lemmas.Bool.{cond-true, cond-false, or_left, or_right, or_from, le-ltb, lt-ltb}
+use Rattle.book.specs.Outcome.{Outcome}
 use Rattle.dividing.specs.Tables.{table_entries, table_tonnes}
 use Rattle.sheet.specs.Commands.{Meaning}
 use Rattle.sheet.specs.Page.{Put}
 use Rattle.sheet.specs.Reading.{read, refused, reading, refusal}
-use Rattle.sheet.specs.declared.command.Fault.{Fault}
-use Rattle.sheet.specs.Statements.{State, shortest_page, Obeyed, refused_line, refused_next, Answered, Prints}
-use Rattle.sheet.specs.Stepping.{Printed, step_stopped}
+use Rattle.sheet.specs.declared.command.Fault.TheVariants.{TablesTooSmall}
+use Rattle.sheet.specs.Statements.{State, shortest_page, goes, ends, Obeyed, is_last, refused_line, refused_next, Answered, Prints}
+use Rattle.sheet.specs.Stepping.{left_behind, Printed, step_stopped}
 use Rattle.sheet.proofs.Laid.{over_from_put}
 
-pub printed : (a b : State) (before after l : List ℕ) (n : ℕ) → length after ≡ length before → Put before 0 l after n → Prints a l b → (n ≤ length before) × ((k : List ℕ) × (n ≡ length k) × Printed a b before after k)
-printed a b before after l n kept put prints =
+pub printed : (a b : State) (before after l : List ℕ) (n : ℕ) → Put before 0 l after n → Prints a l b → (n ≤ length before) × ((k : List ℕ) × (n ≡ length k) × Printed a b before after k)
+printed a b before after l n put prints =
     let on-page = over_from_put before l after n put in (
-      omega (arith, on-page.1, kept, ap length on-page.0 ∙ length-append l (drop (length l) before)),
+      omega (arith, on-page.1, put.within),
       (l, on-page.1, record { page = on-page.0; prints = prints; law = λ ls rest. (b, prints, rest) }),
     )
 
@@ -25,19 +25,31 @@ prints_command a b l m q running is obeyed = record { running = running; answere
 pub prints_refusal : (a b : State) (n : ℕ) (vs : List ℕ) → a.ended ≡ false → refused n vs ≡ reading a.sheet_bytes a.place → b ≡ refused_next a n → Prints a (refused_line a n vs) b
 prints_refusal a b n vs running is next = record { running = running; answered = subst (Answered a (refused_line a n vs) b) is (refl, next) }
 
+-- the same state, but for whether the statement has ended
+abbrev pub with_ended : State → Bool → State
+with_ended a e = record { sheet_bytes = a.sheet_bytes; place = a.place; tally = a.tally; ended = e; count = a.count; last = a.last }
+
+by_last : (v : Bool) (a : State) (p : ℕ) → with_ended (cond v a (cond v (ends a) (goes a p a.tally))) v ≡ cond v (ends a) (goes a p a.tally)
+by_last true a p = refl
+by_last false a p = refl
+
+pub behind_refusal : (a b : State) (n : ℕ) (e : Bool) → b ≡ left_behind a n → e ≡ is_last n → with_ended b e ≡ refused_next a n
+behind_refusal a b n e behind last = ap (λ z. with_ended z e) behind ∙ (ap (with_ended (left_behind a n)) last ∙ by_last (is_last n) a _)
+
 pub passes : (page entries tonnes : ℕ) → shortest_page ≤ page → table_entries ≤ entries → table_tonnes ≤ tonnes → (o : Outcome) → o ≡ step_stopped page entries tonnes o
 passes page entries tonnes room enough weights o =
     sym (cond-false _ _ _ (le-ltb page shortest_page room) ∙ cond-false _ _ _ (or_from _ _ (le-ltb entries table_entries enough) (le-ltb tonnes table_tonnes weights)))
 
--- the line that a step printed, added to an output
-pub line_added : (a b : State) (page after l : List ℕ) (n k : ℕ) (out grown : List ℕ) → n ≡ length l → Printed a b page after l → k ≡ n → grown ≡ out ++ take k after → (m : List ℕ) × Prints a m b × (grown ≡ out ++ m)
-line_added a b page after l n k out grown count on-page same output =
-    let part : take k after ≡ l = ap (take k) on-page.page ∙ take_at l (drop (length l) page) k (sym (same ∙ count)) in
-    (l, on-page.prints, output ∙ ap (λ z. out ++ z) part)
+pub small_rows : (page entries tonnes : ℕ) → shortest_page ≤ page → entries < table_entries → (o : Outcome) → refusal TablesTooSmall ≡ step_stopped page entries tonnes o
+small_rows page entries tonnes room few o =
+    sym (cond-false _ _ _ (le-ltb page shortest_page room) ∙ cond-true _ _ _ (or_left _ _ (lt-ltb entries table_entries few)))
 
--- a step with room for a line and large enough tables is not refused
-pub unrefused : (page entries tonnes : ℕ) (e : Fault) → shortest_page ≤ page → table_entries ≤ entries → table_tonnes ≤ tonnes → refusal e ≡ step_stopped page entries tonnes (answers []) → ⊥
-unrefused page entries tonnes e room enough weights is =
-    let s : refusal e ≡ answers [] = is ∙ sym (passes page entries tonnes room enough weights (answers [])) in
-    let z : ◌≡◌ {A = ℕ} 0 1 = cc in
-    omega arith
+pub small_tonnes : (page entries tonnes : ℕ) → shortest_page ≤ page → tonnes < table_tonnes → (o : Outcome) → refusal TablesTooSmall ≡ step_stopped page entries tonnes o
+small_tonnes page entries tonnes room few o =
+    sym (cond-false _ _ _ (le-ltb page shortest_page room) ∙ cond-true _ _ _ (or_right _ _ (lt-ltb tonnes table_tonnes few)))
+
+-- the line that a step printed, added to an output
+pub line_added : (a b : State) (page after l : List ℕ) (n : ℕ) (out grown : List ℕ) → n ≡ length l → Printed a b page after l → grown ≡ out ++ take n after → (m : List ℕ) × Prints a m b × (grown ≡ out ++ m)
+line_added a b page after l n out grown count on-page output =
+    let part : take n after ≡ l = ap (take n) on-page.page ∙ take_at l (drop (length l) page) n (sym count) in
+    (l, on-page.prints, output ∙ ap (λ z. out ++ z) part)

@@ -13,10 +13,7 @@ use Rattle.chains.specs.declared.faults.Fault.TheVariants.{Line, Gap, Length, To
 use Rattle.book.specs.Faults.{number, carries}
 use Rattle.book.specs.declared.entries.Fault.{Fault}
 use Rattle.book.specs.declared.entries.Fault.TheVariants.{Full, AccountTooHigh, NotUpward, AmountOutOfLimits, NotPosted, LineStruck, Unbalanced}
-use Rattle.sheet.specs.Reading.{number as sheet_number, carries as sheet_carries}
 use Rattle.sheet.specs.Statements.{detail, refusal_head, refusal_text}
-use Rattle.sheet.specs.declared.command.Fault.{Fault as SheetFault}
-use Rattle.sheet.specs.declared.command.Fault.TheVariants.{OutOfRange, UnknownCommand, CutOff, NoteByte, RuleByte, TooShort, TablesTooSmall}
 
 pub no_detail : (f : Fault) → ((a i o : ℕ) → f ≡ Unbalanced a i o → ⊥) → detail (number f) (carries f) ≡ []
 no_detail Full other = refl
@@ -26,15 +23,6 @@ no_detail (AmountOutOfLimits amount) other = refl
 no_detail (NotPosted line) other = refl
 no_detail (LineStruck line) other = refl
 no_detail (Unbalanced account entering leaving) other = absurd (other account entering leaving refl)
-
-pub no_sheet_detail : (f : SheetFault) → detail (sheet_number f) (sheet_carries f) ≡ []
-no_sheet_detail OutOfRange = refl
-no_sheet_detail (UnknownCommand place) = refl
-no_sheet_detail (CutOff place) = refl
-no_sheet_detail (NoteByte place) = refl
-no_sheet_detail (RuleByte place) = refl
-no_sheet_detail TooShort = refl
-no_sheet_detail TablesTooSmall = refl
 
 -- a refusal that is none of the book's has the chain's layer, and no detail
 pub plain_chain : (e : ChainFault) → ((p : ℕ) (f : Fault) → e ≡ Line p f → ⊥) → ((f : Fault) → e ≡ Book f → ⊥) → (n p : ℕ) → n ≡ chain_number e → refusal_head (codes "chain") n p ≡ refusal_text (chain_layer e) (chain_number e) (chain_carries e) p

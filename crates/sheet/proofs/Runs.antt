@@ -1,6 +1,6 @@
 -- Runs of steps, one step more. Assumes nothing.
 use Rattle.std.proofs.Common.{◌≡◌, ℕ, ◌+◌, ◌<◌, Bool, true, false, List, [], ◌∷◌, ◌++◌, length, Ok, Err, Result, sym, refl, ap, ◌∙◌, subst, arith}
-use Rattle.std.proofs.lemmas.List.{append-nil, length_push, flat_map_more}
+use Rattle.std.proofs.lemmas.List.{length_push, flat_map_more}
 use Rattle.std.proofs.lemmas.Bool.{both_ways}
 use Rattle.std.specs.declared.alloc.AllocError.{AllocError}
 use Rattle.sheet.specs.Running.{line_bytes, Added, Stopped, Ran}
@@ -20,9 +20,6 @@ pub record Running (a : State) (before : List ℕ) (n : ℕ) (b : State) (after 
   pub steps : Steps a printed b
   pub output : after ≡ before ++ line_bytes printed
   pub count : length printed ≡ n
-
-pub running_none : (a : State) (before : List ℕ) → Running a before 0 a before
-running_none a before = record { printed = []; steps = refl; output = sym (append-nil before); count = refl }
 
 pub running_more : (a b c : State) (before middle after l : List ℕ) (n : ℕ) → Running a before n b middle → Prints b l c → after ≡ middle ++ l → Running a before (n + 1) c after
 running_more a b c before middle after l n run prints output = record {

@@ -1,16 +1,11 @@
 -- The last chain listed. Assumes nothing.
---   chain_of   the chain that is held
---   Moved      one chain further in a list: the first greatest certain chain after the one held is held, and its figure told;
---              or there is none and what was held stays, as after a refusal
-use Rattle.std.specs.Prelude.{◌≡◌, ℕ, List, take, Some, None, Ok, Err, Option, Result}
+--   Moved   one chain further in a list: the first greatest certain chain after the one held is held, and its figure told;
+--           or there is none and what was held stays, as after a refusal
+use Rattle.std.specs.Prelude.{◌≡◌, ℕ, List, Some, None, Ok, Err, Option, Result}
 use Rattle.book.specs.Tally.{Tally}
 use Rattle.chains.specs.declared.faults.Fault.{Fault}
 use Rattle.flow.specs.Excess.{figure}
 use Rattle.flow.specs.Listing.{FirstAfter, NoneAfter}
-use Rattle.sheet.specs.declared.last.LastChain.{LastChain}
-
-abbrev pub chain_of : LastChain → List ℕ
-chain_of l = take l.lines l.row
 
 abbrev pub Moved : Tally → ℕ → List ℕ → Result (Option ℕ) Fault → List ℕ → Type 0
 Moved t w before (Ok (Some f)) after = FirstAfter t w before after × (f ≡ figure t after)

@@ -6,6 +6,7 @@
 --   Spelled          what is read stands in the sheet, byte by byte
 --   ReadsBack        a command's bytes are read as that command
 --   number, carries, refusal   a fault's number and values, by case; its layer is the sheet
+--   checked          a check as what it does to the outcome that would follow
 use Rattle.std.specs.Prelude.{◌≡◌, ℕ, ◌+◌, ◌*◌, ◌<◌, ◌≤◌, cond, ◌||◌, List, [], ◌∷◌, ◌++◌, length, take, drop, Some, None, Ok, Err, Option, Result, ◌==◌, ◌≢◌, nat_lt, slice_index, slice_range}
 use Rattle.std.specs.List.{prefix_len}
 use Rattle.book.specs.Outcome.{Layer, chain, sheet, Outcome, refuses}
@@ -97,6 +98,10 @@ layer_of TablesTooSmall = chain
 
 abbrev pub refusal : Fault → Outcome
 refusal e = refuses (layer_of e) (number e) (carries e)
+
+abbrev pub checked : {T : Type 0} → Result T Fault → Outcome → Outcome
+checked (Ok x) o = o
+checked (Err e) o = refusal e
 
 -- the code's answers as readings
 abbrev pub found : Result Found Fault → Reading

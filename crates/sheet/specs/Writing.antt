@@ -3,7 +3,6 @@
 --   operand_stops, room_stops   the stops of writing, in their order: of the operands, then of the buffer's length
 --   writing           the outcome: the count of the command's bytes, or a refusal
 --   written           the code's answer as an outcome
---   checked           a check as what it does to the outcome that would follow
 use Rattle.std.specs.Prelude.{ℕ, min, not, List, [], ◌∷◌, length, Ok, Err, Result, ◌==◌, nat_lt}
 use Rattle.book.specs.Outcome.{sheet, Outcome, answers, Stop, stop, stopped}
 use Rattle.sheet.specs.Commands.{note_length, last_rule, Meaning, post, amend, strike, clear, note, list, divide, bytes}
@@ -38,7 +37,3 @@ writing m room = stopped (operand_stops m) (stopped (room_stops room) (answers (
 abbrev pub written : Result ℕ Fault → Outcome
 written (Ok n) = answers (n ∷ [])
 written (Err e) = refusal e
-
-abbrev pub checked : {T : Type 0} → Result T Fault → Outcome → Outcome
-checked (Ok x) o = o
-checked (Err e) o = refusal e

@@ -2,7 +2,7 @@
 ghost use Rattle.std.specs.Prelude.{◌≡◌};
 ghost use Rattle.sheet.specs.Reading.{number};
 
-// the bytes that commands begin with
+// the bytes that commands begin with; constants, since they are the format and one match reads them: an enum would be matched a second time
 pub const POST: u8 = 0x50;
 
 pub const AMEND: u8 = 0x41;
@@ -20,7 +20,8 @@ pub const DIVIDE: u8 = 0x44;
 // the highest rule of a divide command
 pub const LAST_RULE: u8 = 1;
 
-// A command by its operands. The text of a note is that part of the sheet itself.
+// A command by its operands. The text of a note is that part of the sheet itself. Four cases have the fields of the book's calls; they stay commands of their own,
+// each with its byte: with a call inside one case, reading and writing would match twice.
 #[derive(Clone, Copy)]
 pub enum Command<'a> {
     Post { from: u8, to: u8, amount: u32 },
@@ -29,6 +30,7 @@ pub enum Command<'a> {
     Clear,
     Note(&'a [u8]),
     List { floor: u32 },
+    // the rule stays a byte: write is handed any, and refuses those above the highest
     Divide { rule: u8 },
 }
 
@@ -58,7 +60,7 @@ pub enum Fault {
 }
 
 impl Fault {
-    // The refusal's number.
+    // The refusal's number, by name as that of the book's faults.
     pub fn number(&self) -> u8
         ensures { result ≡ number self.now }
     {

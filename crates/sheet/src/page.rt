@@ -1,4 +1,5 @@
-// Writing bytes and decimal numbers into a lent page.
+// Writing bytes and decimal numbers into a lent page, straight and with no memory between. Each call takes the page with a place and answers the next: a struct
+// of the two would hold a reference, and each contract would say besides that it keeps it.
 ghost use Rattle.std.specs.Prelude.{◌+◌, ◌≤◌, length, decimal};
 ghost use Rattle.sheet.specs.Page.{Put};
 
@@ -18,7 +19,7 @@ pub fn put_decimal(page: &mut [u8], at: usize, n: usize) -> usize
     ensures put { Put page.old at (decimal n) page.new result }
     ensures short { result ≤ at + 20 }
 {
-    let digit = 48 + (n % 10) as u8;
+    let digit = b'0' + (n % 10) as u8;
     if n < 10 {
         return put(page, at, &[digit]);
     }

@@ -1,7 +1,8 @@
 // Reading a sheet.
-ghost use Rattle.std.specs.Prelude.{◌≡◌, ◌+◌, ◌≤◌, ◌∷◌, length};
+ghost use Rattle.std.specs.Prelude.{◌≡◌, ◌+◌, ◌<◌, ◌≤◌, ◌∷◌, length, MatchOption};
 ghost use Rattle.sheet.specs.Commands.{longest_sheet, printable};
 ghost use Rattle.sheet.specs.Reading.{reading, command, post_at, amend_at, strike_at, note_at, list_at, divide_at, clean, seen, found, Spelled};
+ghost use Rattle.sheet.specs.Writing.{longest_command};
 
 use crate::command::{
     AMEND, CLEAR, Command, DIVIDE, Fault, Found, LAST_RULE, LIST, NOTE, POST, STRIKE,
@@ -16,151 +17,125 @@ pub fn read(sheet: &[u8], place: usize) -> Result<Option<Found<'_>>, Fault>
     if sheet.len() > LONGEST_SHEET || place > sheet.len() {
         return Err(Fault::OutOfRange);
     }
-    read_rest(&sheet[place..], place)
-}
-
-fn read_rest(rest: &[u8], place: usize) -> Result<Option<Found<'_>>, Fault>
-    requires { place ≤ longest_sheet }
-    ensures { seen result ≡ command place rest.now }
-{
-    match rest {
+    match &sheet[place..] {
         [] => Ok(None),
-        [byte, operands @ ..] => match read_command(*byte, operands, place) {
-            Ok(found) => Ok(Some(found)),
-            Err(fault) => Err(fault),
-        },
+        [byte, bytes @ ..] => Operands { bytes, place }.read(*byte).map(Some),
     }
 }
 
-fn read_command(byte: u8, operands: &[u8], place: usize) -> Result<Found<'_>, Fault>
-    requires { place ≤ longest_sheet }
-    ensures { found result ≡ command place (byte ∷ operands.now) }
-{
-    match byte {
-        POST => read_post(operands, place),
-        AMEND => read_amend(operands, place),
-        STRIKE => read_strike(operands, place),
-        CLEAR => Ok(Found {
-            command: Command::Clear,
-            after: place + 1,
-        }),
-        NOTE => read_note(operands, place),
-        LIST => read_list(operands, place),
-        DIVIDE => read_divide(operands, place),
-        _ => Err(Fault::UnknownCommand(place)),
-    }
+// The bytes behind a command byte, and the place of that byte in the sheet.
+#[derive(Drop)]
+struct Operands<'a> {
+    bytes: &'a [u8],
+    place: usize,
+    ghost within: { place ≤ longest_sheet },
 }
 
-fn read_post(operands: &[u8], place: usize) -> Result<Found<'_>, Fault>
-    requires { place ≤ longest_sheet }
-    ensures { found result ≡ post_at place operands.now }
-{
-    let [from, to, a, b, c, d, ..] = operands else {
-        return Err(Fault::CutOff(place));
-    };
-    let amount = u32::from_be_bytes([*a, *b, *c, *d]);
-    Ok(Found {
-        command: Command::Post {
-            from: *from,
-            to: *to,
-            amount,
-        },
-        after: place + 7,
-    })
-}
-
-fn read_amend(operands: &[u8], place: usize) -> Result<Found<'_>, Fault>
-    requires { place ≤ longest_sheet }
-    ensures { found result ≡ amend_at place operands.now }
-{
-    let [h, l, a, b, c, d, ..] = operands else {
-        return Err(Fault::CutOff(place));
-    };
-    let line = u16::from_be_bytes([*h, *l]);
-    let amount = u32::from_be_bytes([*a, *b, *c, *d]);
-    Ok(Found {
-        command: Command::Amend { line, amount },
-        after: place + 7,
-    })
-}
-
-fn read_strike(operands: &[u8], place: usize) -> Result<Found<'_>, Fault>
-    requires { place ≤ longest_sheet }
-    ensures { found result ≡ strike_at place operands.now }
-{
-    let [h, l, ..] = operands else {
-        return Err(Fault::CutOff(place));
-    };
-    let line = u16::from_be_bytes([*h, *l]);
-    Ok(Found {
-        command: Command::Strike { line },
-        after: place + 3,
-    })
-}
-
-fn read_note(operands: &[u8], place: usize) -> Result<Found<'_>, Fault>
-    requires { place ≤ longest_sheet }
-    ensures { found result ≡ note_at place operands.now }
-{
-    if operands.len() < NOTE_LENGTH {
-        return Err(Fault::CutOff(place));
-    }
-    let text = &operands[0..NOTE_LENGTH];
-    let clean = printable_bytes(text);
-    if clean < NOTE_LENGTH {
-        return Err(Fault::NoteByte(place + 1 + clean));
-    }
-    Ok(Found {
-        command: Command::Note(text),
-        after: place + 1 + NOTE_LENGTH,
-    })
-}
-
-fn read_list(operands: &[u8], place: usize) -> Result<Found<'_>, Fault>
-    requires { place ≤ longest_sheet }
-    ensures { found result ≡ list_at place operands.now }
-{
-    let [a, b, c, d, ..] = operands else {
-        return Err(Fault::CutOff(place));
-    };
-    let floor = u32::from_be_bytes([*a, *b, *c, *d]);
-    Ok(Found {
-        command: Command::List { floor },
-        after: place + 5,
-    })
-}
-
-fn read_divide(operands: &[u8], place: usize) -> Result<Found<'_>, Fault>
-    requires { place ≤ longest_sheet }
-    ensures { found result ≡ divide_at place operands.now }
-{
-    let [rule, ..] = operands else {
-        return Err(Fault::CutOff(place));
-    };
-    if *rule > LAST_RULE {
-        return Err(Fault::RuleByte(place + 1));
-    }
-    Ok(Found {
-        command: Command::Divide { rule: *rule },
-        after: place + 2,
-    })
-}
-
-// How many bytes from the start can stand in a note.
-pub fn printable_bytes(text: &[u8]) -> usize
-    ensures count { result ≡ clean text.now }
-    ensures within { result ≤ length text.now }
-{
-    for i in 0..text.len() {
-        if !is_printable(text[i]) {
-            return i;
+// Each command takes its operands apart by a pattern over the bytes, which is an agreed form: its bytes stand by name, and a command that is cut off is what
+// the pattern does not fit.
+impl<'a> Operands<'a> {
+    fn read(&self, byte: u8) -> Result<Found<'a>, Fault>
+        ensures { found result ≡ command self.now.place (byte ∷ self.now.bytes.now) }
+    {
+        match byte {
+            POST => self.post(),
+            AMEND => self.amend(),
+            STRIKE => self.strike(),
+            CLEAR => Ok(self.answer(Command::Clear, 1)),
+            NOTE => self.note(),
+            LIST => self.list(),
+            DIVIDE => self.divide(),
+            _ => Err(Fault::UnknownCommand(self.place)),
         }
     }
-    text.len()
+
+    fn post(&self) -> Result<Found<'a>, Fault>
+        ensures { found result ≡ post_at self.now.place self.now.bytes.now }
+    {
+        let [from, to, a, b, c, d, ..] = *self.bytes else {
+            return Err(Fault::CutOff(self.place));
+        };
+        let amount = u32::from_be_bytes([a, b, c, d]);
+        Ok(self.answer(Command::Post { from, to, amount }, 7))
+    }
+
+    fn amend(&self) -> Result<Found<'a>, Fault>
+        ensures { found result ≡ amend_at self.now.place self.now.bytes.now }
+    {
+        let [h, l, a, b, c, d, ..] = *self.bytes else {
+            return Err(Fault::CutOff(self.place));
+        };
+        let line = u16::from_be_bytes([h, l]);
+        let amount = u32::from_be_bytes([a, b, c, d]);
+        Ok(self.answer(Command::Amend { line, amount }, 7))
+    }
+
+    fn strike(&self) -> Result<Found<'a>, Fault>
+        ensures { found result ≡ strike_at self.now.place self.now.bytes.now }
+    {
+        let [h, l, ..] = *self.bytes else {
+            return Err(Fault::CutOff(self.place));
+        };
+        let line = u16::from_be_bytes([h, l]);
+        Ok(self.answer(Command::Strike { line }, 3))
+    }
+
+    fn note(&self) -> Result<Found<'a>, Fault>
+        ensures { found result ≡ note_at self.now.place self.now.bytes.now }
+    {
+        let Some(text) = self.bytes.get(..NOTE_LENGTH) else {
+            return Err(Fault::CutOff(self.place));
+        };
+        match first_unprintable(text) {
+            Some(i) => Err(Fault::NoteByte(self.place + 1 + i)),
+            None => Ok(self.answer(Command::Note(text), 1 + NOTE_LENGTH)),
+        }
+    }
+
+    fn list(&self) -> Result<Found<'a>, Fault>
+        ensures { found result ≡ list_at self.now.place self.now.bytes.now }
+    {
+        let [a, b, c, d, ..] = *self.bytes else {
+            return Err(Fault::CutOff(self.place));
+        };
+        let floor = u32::from_be_bytes([a, b, c, d]);
+        Ok(self.answer(Command::List { floor }, 5))
+    }
+
+    fn divide(&self) -> Result<Found<'a>, Fault>
+        ensures { found result ≡ divide_at self.now.place self.now.bytes.now }
+    {
+        let [rule, ..] = *self.bytes else {
+            return Err(Fault::CutOff(self.place));
+        };
+        if rule > LAST_RULE {
+            return Err(Fault::RuleByte(self.place + 1));
+        }
+        Ok(self.answer(Command::Divide { rule }, 2))
+    }
+
+    // The command read, and the place after so many bytes.
+    fn answer(&self, command: Command<'a>, length: usize) -> Found<'a>
+        requires { length ≤ longest_command }
+        ensures command { result.command ≡ command.entry }
+        ensures after { result.after ≡ self.now.place + length }
+    {
+        Found {
+            command,
+            after: self.place + length,
+        }
+    }
+}
+
+// The index of the first byte that cannot stand in a note.
+pub fn first_unprintable(text: &[u8]) -> Option<usize>
+    ensures { MatchOption result (clean text.now ≡ length text.now) (λ i. (i ≡ clean text.now) × (i < length text.now)) }
+{
+    text.iter().position(|byte| !is_printable(*byte))
 }
 
 fn is_printable(byte: u8) -> bool
     ensures { result ≡ printable byte }
 {
-    byte >= 0x20 && byte <= 0x7E
+    matches!(byte, 0x20..=0x7E)
 }

@@ -3,39 +3,39 @@ ghost use Rattle.std.specs.Prelude.{◌≡◌, ◌≤◌, length, OnOk};
 ghost use Rattle.book.specs.Outcome.{Outcome, stopped, settled};
 ghost use Rattle.sheet.specs.Commands.{meaning, bytes, divide, last_rule, Fit, Printable};
 ghost use Rattle.book.specs.Overlay.{over};
-ghost use Rattle.sheet.specs.Reading.{ReadsBack};
-ghost use Rattle.sheet.specs.Writing.{longest_command, note_stops, operand_stops, writing, written, checked};
+ghost use Rattle.sheet.specs.Reading.{ReadsBack, checked};
+ghost use Rattle.sheet.specs.Writing.{longest_command, note_stops, operand_stops, writing, written};
 
 use crate::command::{AMEND, CLEAR, Command, DIVIDE, Fault, LAST_RULE, LIST, NOTE, POST, STRIKE};
 use crate::page::put;
-use crate::reading::printable_bytes;
+use crate::reading::first_unprintable;
 use crate::{LONGEST_COMMAND, NOTE_LENGTH};
 
-// Puts the command's bytes at the start of the buffer, and answers how many they are.
+// Puts the command's bytes at the start of the buffer, which is lent, since writing takes no heap, and answers how many they are.
 pub fn write(command: &Command<'_>, buffer: &mut [u8]) -> Result<usize, Fault>
     ensures answer { written result ≡ writing (meaning command.now) (length buffer.old) }
     ensures buffer { buffer.new ≡ settled (writing (meaning command.now) (length buffer.old)) buffer.old (over buffer.old (bytes (meaning command.now))) }
     ensures back { OnOk result (ReadsBack (meaning command.now)) }
 {
-    check_operands(command)?;
+    check_operands(*command)?;
     if buffer.len() < LONGEST_COMMAND {
         return Err(Fault::TooShort);
     }
-    Ok(put_command(command, buffer))
+    Ok(put_command(*command, buffer))
 }
 
-fn check_operands(command: &Command<'_>) -> Result<(), Fault>
-    ensures stop { (o : Outcome) → checked result o ≡ stopped (operand_stops (meaning command.now)) o }
-    ensures fit { OnOk result (Fit (meaning command.now)) }
+fn check_operands(command: Command<'_>) -> Result<(), Fault>
+    ensures stop { (o : Outcome) → checked result o ≡ stopped (operand_stops (meaning command.entry)) o }
+    ensures fit { OnOk result (Fit (meaning command.entry)) }
 {
-    match *command {
-        Command::Post { from, to, amount } => Ok(()),
-        Command::Amend { line, amount } => Ok(()),
-        Command::Strike { line } => Ok(()),
-        Command::Clear => Ok(()),
+    match command {
         Command::Note(text) => check_note(text),
-        Command::List { floor } => Ok(()),
         Command::Divide { rule } => check_rule(rule),
+        Command::Post { .. }
+        | Command::Amend { .. }
+        | Command::Strike { .. }
+        | Command::Clear
+        | Command::List { .. } => Ok(()),
     }
 }
 
@@ -46,11 +46,10 @@ fn check_note(text: &[u8]) -> Result<(), Fault>
     if text.len() != NOTE_LENGTH {
         return Err(Fault::NoteByte(text.len().min(NOTE_LENGTH)));
     }
-    let clean = printable_bytes(text);
-    if clean < NOTE_LENGTH {
-        return Err(Fault::NoteByte(clean));
+    match first_unprintable(text) {
+        Some(i) => Err(Fault::NoteByte(i)),
+        None => Ok(()),
     }
-    Ok(())
 }
 
 fn check_rule(rule: u8) -> Result<(), Fault>
@@ -63,13 +62,13 @@ fn check_rule(rule: u8) -> Result<(), Fault>
     Ok(())
 }
 
-fn put_command(command: &Command<'_>, buffer: &mut [u8]) -> usize
-    requires fit { Fit (meaning command.now) }
+fn put_command(command: Command<'_>, buffer: &mut [u8]) -> usize
+    requires fit { Fit (meaning command) }
     requires room { longest_command ≤ length buffer.old }
-    ensures count { result ≡ length (bytes (meaning command.now)) }
-    ensures buffer { buffer.new ≡ over buffer.old (bytes (meaning command.now)) }
+    ensures count { result ≡ length (bytes (meaning command.entry)) }
+    ensures buffer { buffer.new ≡ over buffer.old (bytes (meaning command.entry)) }
 {
-    match *command {
+    match command {
         Command::Post { from, to, amount } => {
             let [a, b, c, d] = amount.to_be_bytes();
             put(buffer, 0, &[POST, from, to, a, b, c, d])

@@ -1,6 +1,7 @@
 // Cases of reading a sheet at a place.
+use crate::hex::hex_bytes;
 use crate::shown::{Named, Refusal};
-use crate::words::{hex_bytes, next_number};
+use case_words::next_number;
 use sheet::read;
 
 // the byte of a clear command

@@ -1,5 +1,5 @@
 // Cases of runs of a statement's steps.
-use crate::words::sheet_and_rest;
+use crate::hex::sheet_and_rest;
 use sheet::Statement;
 use std::io::Write;
 

@@ -47,13 +47,14 @@ impl fmt::Display for Refusal {
     fn fmt<W: fmt::Write>(&self, f: &mut fmt::Formatter<W>) -> fmt::Result {
         let number = self.0.number();
         match self.0 {
-            Fault::OutOfRange => write!(f, "refused {number}"),
-            Fault::UnknownCommand(place) => write!(f, "refused {number} {place}"),
-            Fault::CutOff(place) => write!(f, "refused {number} {place}"),
-            Fault::NoteByte(place) => write!(f, "refused {number} {place}"),
-            Fault::RuleByte(place) => write!(f, "refused {number} {place}"),
-            Fault::TooShort => write!(f, "refused {number}"),
-            Fault::TablesTooSmall => write!(f, "refused {number}"),
+            Fault::UnknownCommand(place)
+            | Fault::CutOff(place)
+            | Fault::NoteByte(place)
+            | Fault::RuleByte(place) => write!(f, "refused {number} {place}"),
+            Fault::OutOfRange | Fault::TooShort | Fault::TablesTooSmall => write!(
+                f,
+                "refused {number}"
+            ),
         }
     }
 }

@@ -1,8 +1,10 @@
 // Cases of a statement's steps, each with a page and tables of its own.
+use crate::hex::sheet_and_rest;
 use crate::shown::{FILLER, Refusal};
-use crate::tables::{TABLE_ENTRIES, TABLE_TONNES, Tables};
-use crate::words::sheet_and_rest;
-use anyhow::anyhow;
+use crate::tables::Written;
+use anyhow::Context;
+use case_words::{Kept, Tables};
+use dividing::{TABLE_ENTRIES, TABLE_TONNES};
 use sheet::Statement;
 use std::alloc::Global;
 use std::io::Write;
@@ -41,39 +43,30 @@ fn print_step(rt: &HostRuntime, statement: &mut Statement<'_>, loan: &str) -> an
 
 // `ENTRIES/TONNES`
 fn sized_tables(heap: Global, sizes: &str) -> anyhow::Result<Tables> {
-    let Some((entries, tonnes)) = sizes.split_once("/") else {
-        return Err(anyhow!("a size is missing"));
-    };
+    let (entries, tonnes) = sizes.split_once("/").context("a size is missing")?;
     Ok(Tables::new(heap, entries.parse::<usize>()?, tonnes.parse::<usize>()?)?)
 }
 
 // The line stands at the start of the page, and ends this line too.
 fn print_line(rt: &HostRuntime, page: &[u8], tables: &Tables, count: usize) -> anyhow::Result<()> {
-    let Some((line, rest)) = page.split_at_checked(count) else {
-        return Err(anyhow!("a line is longer than its page"));
-    };
-    let rest = state_of(rest);
-    print!(rt; "{count} bytes, rest {rest}, ")?;
-    tables.print(rt)?;
-    rt.print(": ")?;
+    let (line, rest) = page
+        .split_at_checked(count)
+        .context("a line is longer than its page")?;
+    let rest = kept(rest);
+    let written = Written(tables);
+    print!(rt; "{count} bytes, rest {rest}, {written}: ")?;
     rt.stdout().write_all(line)?;
     Ok(())
 }
 
 fn print_kept(rt: &HostRuntime, page: &[u8], tables: &Tables) -> anyhow::Result<()> {
-    let rest = state_of(page);
-    print!(rt; ", page {rest}, ")?;
-    tables.print(rt)?;
-    rt.println("")?;
+    let page = kept(page);
+    let written = Written(tables);
+    println!(rt; ", page {page}, {written}")?;
     Ok(())
 }
 
 // Whether a part of a page still holds what it held before.
-fn state_of(part: &[u8]) -> &'static str {
-    for byte in part {
-        if *byte != FILLER {
-            return "changed";
-        }
-    }
-    "kept"
+fn kept(part: &[u8]) -> Kept {
+    Kept(part.iter().all(|byte| *byte == FILLER))
 }

@@ -1,7 +1,8 @@
 // Cases of writing a command into a buffer.
+use crate::hex::hex_bytes;
 use crate::shown::{FILLER, Hex, Refusal};
-use crate::words::{hex_bytes, next_number, next_word};
 use anyhow::anyhow;
+use case_words::{next_number, next_word};
 use sheet::{Command, write};
 use std::str::SplitWhitespace;
 
@@ -19,7 +20,7 @@ pub fn print_write(rt: &HostRuntime, text: &str) -> anyhow::Result<()> {
     print_written(rt, &command, length)
 }
 
-// Any command but a note.
+// Any command but a note. By `parse_call` it would be no plainer: each call would be turned into its command here.
 fn parse_command(name: &str, words: &mut SplitWhitespace<'_>) -> anyhow::Result<Command<'static>> {
     match name {
         "post" => Ok(Command::Post {

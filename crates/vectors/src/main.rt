@@ -25,6 +25,7 @@ fn print_statement(rt: &HostRuntime, name: &str) -> io::Result<()> {
     rt.stdout().write_all(&statement)
 }
 
+// The program `statement` writes the lines of each run instead: one loop for both would be passed what to do with them, and be no plainer.
 fn whole_statement(heap: Global, sheet: &[u8]) -> Result<Vec<u8>, AllocError> {
     let mut statement = Statement::new(sheet);
     let mut lines = Vec::new(heap);

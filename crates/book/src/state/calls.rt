@@ -105,30 +105,18 @@ impl Book {
     }
 
     // Makes one call.
-    pub fn make(&mut self, call: Call) -> Answer
+    pub fn make(&mut self, call: Call) -> Result<Answer, Fault>
         ensures answer { told result ≡ outcome (lines self.old) call }
         ensures lines { lines self.new ≡ after (lines self.old) call }
     {
         match call {
-            Call::Post { from, to, amount } => match self.post(from, to, amount) {
-                Ok(number) => Answer::Posted(number),
-                Err(fault) => Answer::Refused(fault),
-            },
-            Call::Amend { line, amount } => told_done(self.amend(line, amount)),
-            Call::Strike { line } => told_done(self.strike(line)),
+            Call::Post { from, to, amount } => self.post(from, to, amount).map(Answer::Posted),
+            Call::Amend { line, amount } => self.amend(line, amount).map(|_| Answer::Done),
+            Call::Strike { line } => self.strike(line).map(|_| Answer::Done),
             Call::Clear => {
                 self.clear();
-                Answer::Done
+                Ok(Answer::Done)
             }
         }
-    }
-}
-
-fn told_done(res: Result<(), Fault>) -> Answer
-    ensures { told result ≡ done res }
-{
-    match res {
-        Ok(_) => Answer::Done,
-        Err(fault) => Answer::Refused(fault),
     }
 }

@@ -24,12 +24,9 @@ impl Book {
         ensures line { result ≡ (if nat_lt number (length (lines self.now)) then Some (at (lines self.now) number) else None) }
         ensures sound { WellFormed (lines self.now) }
     {
-        let at = number as usize;
-        if at >= self.count {
-            return None;
-        }
-        let record = self.table.records[at];
-        Some(record.line())
+        let posted = &self.table.records[..self.count];
+        let record = posted.get(number as usize)?;
+        Some(Line::from(*record))
     }
 
     // Stops where no line of that number is posted, or it is struck.

@@ -1,43 +1,42 @@
 // A statement's commands, obeyed one line at a time.
-ghost use Rattle.std.specs.Prelude.{◌≡◌, ◌≤◌, false, length};
+ghost use Rattle.std.specs.Prelude.{◌≡◌};
 ghost use Rattle.book.specs.Lines.{lines};
-ghost use Rattle.dividing.specs.Tables.{table_entries, table_tonnes};
 ghost use Rattle.sheet.specs.Commands.{Fit, meaning, list, divide};
 ghost use Rattle.sheet.specs.Obeying.{Line, Did};
-ghost use Rattle.sheet.specs.Statements.{shortest_page, goes};
-ghost use Rattle.sheet.specs.Stepping.{state};
+ghost use Rattle.sheet.specs.Statements.{goes};
+ghost use Rattle.sheet.specs.Stepping.{running};
 
+use crate::SHORTEST_PAGE;
 use crate::command::Command;
+use crate::last::go_to_next;
 use crate::obeying::{amend, post, strike};
 use crate::rows::{divide_by, say_row};
-use crate::statement::Statement;
+use crate::statement::Course;
 use crate::text::{say, say_chain, say_chain_refusal, say_number, say_text};
+use dividing::{TABLE_ENTRIES, TABLE_TONNES};
 
-impl<'a> Statement<'a> {
+impl Course<'_> {
     // Goes on behind a command.
     pub(crate) fn go_on(&mut self, after: usize)
-        requires { self.old.ended ≡ false }
-        ensures { state self.new ≡ goes (state self.old) after (lines self.old.book) }
+        ensures { running self.new ≡ goes (running self.old) after (lines self.old.book) }
     {
         self.place = after;
         self.count = 0;
-        self.last.forget();
+        self.last.clear();
     }
 
     // Prints the next line of a command, and goes on behind it after its last.
+    // The page and the tables are passed on as three references: behind a struct of them each contract would say besides that its fields keep their references.
     pub(crate) fn obey(
         &mut self,
         command: Command<'_>,
         after: usize,
-        page: &mut [u8],
-        rows: &mut [u16],
-        tonnes: &mut [u32],
+        page: &mut [u8; SHORTEST_PAGE],
+        rows: &mut [u16; TABLE_ENTRIES],
+        tonnes: &mut [u32; TABLE_TONNES],
     ) -> usize
-        requires fit { Fit (meaning command) }
-        requires running { self.old.ended ≡ false }
-        requires room { shortest_page ≤ length page.old }
-        requires tables { (table_entries ≤ length rows.old) × (table_tonnes ≤ length tonnes.old) }
-        ensures { Did (state self.old) (state self.new) after (meaning command.entry) page.old page.new result rows.old rows.new tonnes.old tonnes.new }
+        requires { Fit (meaning command) }
+        ensures { Did (running self.old) (running self.new) after (meaning command.entry) page.old page.new result rows.old rows.new tonnes.old tonnes.new }
     {
         match command {
             Command::Post { from, to, amount } => {
@@ -70,23 +69,19 @@ impl<'a> Statement<'a> {
     }
 
     // The next chain of a list, the count of its chains, or its refusal.
-    fn obey_list(&mut self, floor: u32, after: usize, page: &mut [u8]) -> usize
-        requires running { self.old.ended ≡ false }
-        requires room { shortest_page ≤ length page.old }
-        ensures { Line (state self.old) (state self.new) after (list floor) page.old page.new result }
+    fn obey_list(&mut self, floor: u32, after: usize, page: &mut [u8; SHORTEST_PAGE]) -> usize
+        ensures { Line (running self.old) (running self.new) after (list floor) page.old page.new result }
     {
-        match self.last.go(&self.book, floor) {
-            Ok(found) => match found {
-                Some(figure) => {
-                    self.count = self.count.saturating_add(1);
-                    say_chain(page, b"certain ", figure, self.last.chain())
-                }
-                None => {
-                    let count = self.count;
-                    self.go_on(after);
-                    say_number(page, b"listed ", count)
-                }
-            },
+        match go_to_next(&mut self.last, &self.book, floor) {
+            Ok(Some(figure)) => {
+                self.count = self.count.saturating_add(1);
+                say_chain(page, b"certain ", figure, self.last.as_slice())
+            }
+            Ok(None) => {
+                let count = self.count;
+                self.go_on(after);
+                say_number(page, b"listed ", count)
+            }
             Err(fault) => {
                 let place = self.place;
                 self.go_on(after);
@@ -100,14 +95,11 @@ impl<'a> Statement<'a> {
         &mut self,
         rule: u8,
         after: usize,
-        page: &mut [u8],
-        rows: &mut [u16],
-        tonnes: &mut [u32],
+        page: &mut [u8; SHORTEST_PAGE],
+        rows: &mut [u16; TABLE_ENTRIES],
+        tonnes: &mut [u32; TABLE_TONNES],
     ) -> usize
-        requires running { self.old.ended ≡ false }
-        requires room { shortest_page ≤ length page.old }
-        requires tables { (table_entries ≤ length rows.old) × (table_tonnes ≤ length tonnes.old) }
-        ensures { Did (state self.old) (state self.new) after (divide rule) page.old page.new result rows.old rows.new tonnes.old tonnes.new }
+        ensures { Did (running self.old) (running self.new) after (divide rule) page.old page.new result rows.old rows.new tonnes.old tonnes.new }
     {
         match divide_by(&self.book, rule, rows, tonnes) {
             Ok(count) => {

@@ -1,8 +1,5 @@
 // Runs of a statement's steps into an output that grows.
-ghost use Rattle.std.specs.Prelude.{◌≡◌, ◌≤◌, length};
-ghost use Rattle.dividing.specs.Tables.{table_entries, table_tonnes};
 ghost use Rattle.sheet.specs.Running.{Added, Ran};
-ghost use Rattle.sheet.specs.Statements.{shortest_page};
 ghost use Rattle.sheet.specs.Stepping.{state};
 
 use crate::SHORTEST_PAGE;
@@ -29,23 +26,20 @@ impl<'a> Statement<'a> {
     // One step; room for its line is found first, so that no line is lost for want of memory.
     fn add_line(
         &mut self,
-        page: &mut [u8],
-        rows: &mut [u16],
-        tonnes: &mut [u32],
+        page: &mut [u8; SHORTEST_PAGE],
+        rows: &mut [u16; TABLE_ENTRIES],
+        tonnes: &mut [u32; TABLE_TONNES],
         out: &mut Vec<u8>,
     ) -> Result<bool, AllocError>
-        requires page { length page.old ≡ shortest_page }
-        requires tables { (table_entries ≤ length rows.old) × (table_tonnes ≤ length tonnes.old) }
         ensures { Added (state self.old) out.old.items result (state self.new) out.new.items }
     {
         out.reserve(SHORTEST_PAGE)?;
-        match self.step(page, rows, tonnes) {
-            Ok(Some(length)) => {
-                let _ = out.extend_from_slice(&page[0..length]);
+        match self.next_line(page, rows, tonnes) {
+            Some(length) => {
+                out.extend_from_slice(&page[..length])?;
                 Ok(false)
             }
-            Ok(None) => Ok(true),
-            Err(_) => Ok(true),
+            None => Ok(true),
         }
     }
 }

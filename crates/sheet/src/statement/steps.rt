@@ -1,18 +1,16 @@
 // The steps of a statement.
-ghost use Rattle.std.specs.Prelude.{◌≡◌, ◌≤◌, false, length, ◌≢◌};
+ghost use Rattle.std.specs.Prelude.{◌≡◌, length};
 ghost use Rattle.book.specs.Outcome.{Outcome};
-ghost use Rattle.sheet.specs.Commands.{longest_sheet};
-ghost use Rattle.sheet.specs.Page.{Put};
-ghost use Rattle.sheet.specs.Reading.{number, carries};
-ghost use Rattle.sheet.specs.Statements.{shortest_page, clean_state, OneStatement, refused_line, refused_next};
-ghost use Rattle.sheet.specs.Stepping.{state, checked, step_stopped, Stepped};
+ghost use Rattle.sheet.specs.Reading.{checked};
+ghost use Rattle.sheet.specs.Statements.{clean_state, OneStatement};
+ghost use Rattle.sheet.specs.Stepping.{state, step_stopped, Stepped};
 
+use crate::SHORTEST_PAGE;
 use crate::command::Fault;
-use crate::last::LastChain;
 use crate::reading::read;
-use crate::statement::Statement;
-use crate::text::say_sheet_refusal;
-use crate::{LONGEST_COMMAND, SHORTEST_PAGE};
+use crate::statement::refusing::ends;
+use crate::statement::{Course, Statement};
+use arrayvec::ArrayVec;
 use book::Book;
 use dividing::{TABLE_ENTRIES, TABLE_TONNES};
 
@@ -22,17 +20,20 @@ impl<'a> Statement<'a> {
         ensures clean { state result ≡ clean_state sheet.now }
         ensures one { OneStatement sheet.now }
     {
-        Statement {
+        let course = Course {
             sheet,
             place: 0,
-            ended: false,
             book: Book::new(),
             count: 0,
-            last: LastChain::new(),
+            last: ArrayVec::new(),
+        };
+        Statement {
+            course,
+            ended: false,
         }
     }
 
-    // Writes the next line of the statement at the start of the page, and answers its length; nothing after the end.
+    // Writes the next line of the statement at the start of the page, and answers its length; nothing after the end. Page and tables are lent: a step takes no heap.
     // A step that prints a row or the count of a dividing first fills the tables as divide does.
     pub fn step(
         &mut self,
@@ -43,59 +44,38 @@ impl<'a> Statement<'a> {
         ensures stop { (o : Outcome) → checked result o ≡ step_stopped (length page.old) (length rows.old) (length tonnes.old) o }
         ensures stepped { Stepped (state self.old) page.old rows.old tonnes.old result (state self.new) page.new rows.new tonnes.new }
     {
-        if page.len() < SHORTEST_PAGE {
-            return Err(Fault::TooShort);
-        }
-        if rows.len() < TABLE_ENTRIES || tonnes.len() < TABLE_TONNES {
-            return Err(Fault::TablesTooSmall);
-        }
-        if self.ended {
-            return Ok(None);
-        }
-        match read(self.sheet, self.place) {
-            Ok(None) => Ok(None),
-            Ok(Some(found)) => Ok(Some(self.obey(found.command, found.after, page, rows, tonnes))),
-            Err(fault) => Ok(Some(self.refuse(&fault, page))),
-        }
+        let page = page
+            .first_chunk_mut::<SHORTEST_PAGE>()
+            .ok_or(Fault::TooShort)?;
+        let rows = rows
+            .first_chunk_mut::<TABLE_ENTRIES>()
+            .ok_or(Fault::TablesTooSmall)?;
+        let tonnes = tonnes
+            .first_chunk_mut::<TABLE_TONNES>()
+            .ok_or(Fault::TablesTooSmall)?;
+        Ok(self.next_line(page, rows, tonnes))
     }
 
-    // Prints the refusal of a reading; the statement then ends, or goes on behind the command.
-    fn refuse(&mut self, fault: &Fault, page: &mut [u8]) -> usize
-        requires room { shortest_page ≤ length page.old }
-        requires running { self.old.ended ≡ false }
-        requires within { (number fault.now ≢ 12) → self.old.place ≤ longest_sheet }
-        ensures page { Put page.old 0 (refused_line (state self.old) (number fault.now) (carries fault.now)) page.new result }
-        ensures next { state self.new ≡ refused_next (state self.old) (number fault.now) }
+    // Prints the next line, or nothing after the end.
+    pub(crate) fn next_line(
+        &mut self,
+        page: &mut [u8; SHORTEST_PAGE],
+        rows: &mut [u16; TABLE_ENTRIES],
+        tonnes: &mut [u32; TABLE_TONNES],
+    ) -> Option<usize>
+        ensures { Stepped (state self.old) page.old rows.old tonnes.old (Ok result) (state self.new) page.new rows.new tonnes.new }
     {
-        let place = self.place;
-        match fault {
-            Fault::OutOfRange => {
-                self.ended = true;
-                say_sheet_refusal(page, fault, 0)
-            }
-            Fault::UnknownCommand(_) => {
-                self.ended = true;
-                say_sheet_refusal(page, fault, place)
-            }
-            Fault::CutOff(_) => {
-                self.ended = true;
-                say_sheet_refusal(page, fault, place)
-            }
-            Fault::RuleByte(_) => {
-                self.go_on(place + 2);
-                say_sheet_refusal(page, fault, place)
-            }
-            Fault::NoteByte(_) => {
-                self.go_on(place + LONGEST_COMMAND);
-                say_sheet_refusal(page, fault, place)
-            }
-            Fault::TooShort => {
-                self.go_on(place + LONGEST_COMMAND);
-                say_sheet_refusal(page, fault, place)
-            }
-            Fault::TablesTooSmall => {
-                self.go_on(place + LONGEST_COMMAND);
-                say_sheet_refusal(page, fault, place)
+        if self.ended {
+            return None;
+        }
+        let course = &mut self.course;
+        match read(course.sheet, course.place) {
+            Ok(None) => None,
+            Ok(Some(found)) => Some(course.obey(found.command, found.after, page, rows, tonnes)),
+            Err(fault) => {
+                let printed = course.refuse(&fault, page);
+                self.ended = ends(&fault);
+                Some(printed)
             }
         }
     }

@@ -1,9 +1,8 @@
-use Rattle.std.proofs.Common.{◌+◌, map, vec_items, sym, ap, ◌∙◌, subst}
+use Rattle.std.proofs.Common.{◌+◌, [], map, vec_items, sym, ap, ◌∙◌, subst, arith}
 use Rattle.std.proofs.lemmas.List.{map_push}
 use Rattle.book.specs.Faults.{told}
 use Rattle.book.specs.Lines.{lines}
-use Rattle.book.specs.Tally.{WellFormed}
-use Rattle.book.proofs.Balance.{well_formed}
+use Rattle.book.proofs.Tallies.{tally_well_formed}
 use Rattle.book.proofs.Runs.{Half, half_none, half_more, half_all}
 use Rattle.book.proofs.run.replay.Goals as goal
 
@@ -22,5 +21,5 @@ returns c =
     record {
       answers_told = all.0;
       lines_left = all.1;
-      well_formed = subst WellFormed all.1 (well_formed c.loop-call.book);
+      well_formed = tally_well_formed c.args.calls.now [] (omega arith, tt);
     }

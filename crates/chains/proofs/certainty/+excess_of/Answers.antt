@@ -10,7 +10,7 @@ pub returns-in-len1 : goal.returns-in-len1
 returns-in-len1 t c =
     let chain = c.args.chain.now in
     let one : length chain ≡ 1 = omega (arith, ltb-true, ltb-false) in
-    let amount = c.parts-amount.ensures.amount in
+    let amount = c.parts.ensures.amount in
     record {
       value = omega (arith, ints, ap pos amount.0, excess_one (lines c.args.book.now) chain one);
       low = omega (arith, ints);
@@ -26,7 +26,7 @@ returns-in-len1-up t c =
     let before = c.excess_of-before.ensures in
     let from = c.parts-from.ensures.from in
     let amount = c.parts-from.ensures.amount in
-    let total = c.requires.totals.1 c.parts-from.result.0 from.1 ∙ ap (in_total tally) from.0 in
+    let total = c.requires.totals c.parts-from.result.from from.1 ∙ ap (in_total tally) from.0 in
     let front = length-take (length chain - 1) chain in
     record {
       value = omega (arith, ints, ap pos total, ap pos amount.0, before.value, law, front, before.low, before.high);

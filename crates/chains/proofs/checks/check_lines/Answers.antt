@@ -9,24 +9,24 @@ use Rattle.chains.proofs.Stops.{through}
 use Rattle.chains.specs.Stops.{lines_stops}
 use Rattle.chains.proofs.checks.check_lines.Goals as goal
 
-pub returns-in_err-to : goal.returns-in_err-to
-returns-in_err-to c = λ o.
+pub returns-in_err-check_line : goal.returns-in_err-check_line
+returns-in_err-check_line c = λ o.
     let t = lines c.args.book.now in
     let chain = c.args.chain.now in
-    let i = c.loop-i.i in
+    let i = c.loop-place.place in
     let p = err_from_is_err_and c.from_residual.result c.from_residual.ensures.1 in
     through c.from_residual.result p.0 _ _ o p.1 p.2
-    (c.in_err-to.ensures.stop (stopped (lines_stops t (i + 1) (Some (to_of (at t (get_or chain i 0)))) (drop (i + 1) chain)) o)
-    ∙ (sym (lines_step t i c.loop-i.before chain o c.loop-i-test.true) ∙ c.loop-i.invariant o))
+    (c.in_err-check_line.ensures.stop (stopped (lines_stops t (i + 1) (Some (to_of (at t (get_or chain i 0)))) (drop (i + 1) chain)) o)
+    ∙ (sym (lines_step t i c.loop-place.before chain o c.loop-place-test.true) ∙ c.loop-place.invariant o))
 
-pub loop-i-preserved : goal.loop-i-preserved
-loop-i-preserved c = λ o.
+pub loop-place-preserved : goal.loop-place-preserved
+loop-place-preserved c = λ o.
     let t = lines c.args.book.now in
     let chain = c.args.chain.now in
-    let i = c.loop-i.i in
-    ap (λ a. stopped (lines_stops t (i + 1) (Some a) (drop (i + 1) chain)) o) c.in_ok-to.ensures.entered
-    ∙ (c.in_ok-to.ensures.stop (stopped (lines_stops t (i + 1) (Some (to_of (at t (get_or chain i 0)))) (drop (i + 1) chain)) o)
-    ∙ (sym (lines_step t i c.loop-i.before chain o c.loop-i-test.true) ∙ c.loop-i.invariant o))
+    let i = c.loop-place.place in
+    ap (λ a. stopped (lines_stops t (i + 1) (Some a) (drop (i + 1) chain)) o) c.in_ok-check_line.ensures.entered
+    ∙ (c.in_ok-check_line.ensures.stop (stopped (lines_stops t (i + 1) (Some (to_of (at t (get_or chain i 0)))) (drop (i + 1) chain)) o)
+    ∙ (sym (lines_step t i c.loop-place.before chain o c.loop-place-test.true) ∙ c.loop-place.invariant o))
 
 pub returns : goal.returns
-returns c = λ o. sym (lines_end (lines c.args.book.now) c.loop-i.i c.loop-i.before c.args.chain.now o c.loop-i-test.false) ∙ c.loop-i.invariant o
+returns c = λ o. sym (lines_end (lines c.args.book.now) c.loop-place.place c.loop-place.before c.args.chain.now o c.loop-place-test.false) ∙ c.loop-place.invariant o

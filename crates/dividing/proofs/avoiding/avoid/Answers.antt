@@ -1,25 +1,49 @@
-use Rattle.std.proofs.Common.{◌≡◌, ◌-◌, get_or, take, sym, ap, ◌∙◌, arith}
+use Rattle.std.proofs.Common.{◌-◌, get_or, take, ◌∙◌, arith}
 use Rattle.book.specs.Lines.{lines}
-use Rattle.flow.specs.Rules.{turn}
-use Rattle.dividing.proofs.AvoidingSteps.{place_turns, place_more, place_all}
+use Rattle.dividing.proofs.AvoidingSteps.{ends_is, turn_other, turn_itself, turn_lowest, avoiding_turns, avoiding_lowest}
 use Rattle.dividing.proofs.avoiding.avoid.Goals as goal
+use Rattle.dividing.proofs.avoiding.avoid.Goals.{in_default-via-in-Some-2+else-tonnes_on-gt0, in_default-via-in_default}
 
-pub returns-then-from-account : goal.returns-then-from-account
-returns-then-from-account c =
-    let t = lines c.args.book.now in
+pub returns-in-Some : goal.returns-in-Some
+returns-in-Some c =
+    let t = lines c.args.here.now.book.now in
+    let left = c.args.here.now.left.now in
+    let a = c.args.here.now.account in
+    let walked = c.args.walked.now in
     let chain = c.args.chain.now in
-    let i = c.loop-i.i in
-    let whole : i - 0 ≡ i = omega arith in
-    c.turn.ensures
-    ∙ (ap (λ k. turn (take k chain) (get_or chain i 0) t c.args.left.now c.args.account c.args.walked.now) whole
-    ∙ (sym (place_turns t c.args.left.now c.args.account c.args.walked.now chain i c.loop-i-test.true (sym c.parts-from.ensures.from.0 ∙ c.if-from-account.true)) ∙ c.loop-i.invariant))
+    let i = c.in-Some.i in
+    let front = take (i - 0) chain in
+    let after = ends_is walked front c.ends_with.result c.ends_with.ensures.value ∙ c.if-ends_with.true in
+    c.lowest_other.ensures
+    ∙ (turn_other t left a walked front (get_or chain i 0) after ∙ avoiding_turns t left a walked chain i (i - 0) (omega arith) c.in-Some.ensures)
 
-pub loop-i-preserved : goal.loop-i-preserved
-loop-i-preserved c =
-    sym (place_more (lines c.args.book.now) c.args.left.now c.args.account c.args.walked.now c.args.chain.now c.loop-i.i c.loop-i-test.true (λ same. c.if-from-account.false (c.parts-from.ensures.from.0 ∙ same)))
-    ∙ c.loop-i.invariant
+pub returns-in-Some-2 : goal.returns-in-Some-2
+returns-in-Some-2 c =
+    let t = lines c.args.here.now.book.now in
+    let left = c.args.here.now.left.now in
+    let a = c.args.here.now.account in
+    let walked = c.args.walked.now in
+    let chain = c.args.chain.now in
+    let i = c.in-Some.i in
+    let front = take (i - 0) chain in
+    let elsewhere = ends_is walked front c.ends_with.result c.ends_with.ensures.value ∙ c.if-ends_with.false in
+    turn_itself t left a walked front (get_or chain i 0) elsewhere (omega (arith, c.tonnes_on.ensures, c.if-tonnes_on-gt0.true))
+    ∙ avoiding_turns t left a walked chain i (i - 0) (omega arith) c.in-Some.ensures
 
-pub returns : goal.returns
-returns c =
-    c.lowest_open-2.ensures
-    ∙ (sym (place_all (lines c.args.book.now) c.args.left.now c.args.account c.args.walked.now c.args.chain.now c.loop-i.i c.loop-i-test.false) ∙ c.loop-i.invariant)
+pub returns-in_default : goal.returns-in_default
+returns-in_default c =
+    let t = lines c.args.here.now.book.now in
+    let left = c.args.here.now.left.now in
+    let a = c.args.here.now.account in
+    let walked = c.args.walked.now in
+    let chain = c.args.chain.now in
+    c.lowest.ensures
+    ∙ elim c.in_default.branch [
+      | in_default-via-in-Some-2+else-tonnes_on-gt0 w ↦
+          let i = w.in-Some.i in
+          let front = take (i - 0) chain in
+          let elsewhere = ends_is walked front w.ends_with.result w.ends_with.ensures.value ∙ w.if-ends_with.false in
+          turn_lowest t left a walked front (get_or chain i 0) elsewhere (omega (arith, w.tonnes_on.ensures, w.if-tonnes_on-gt0.false))
+          ∙ avoiding_turns t left a walked chain i (i - 0) (omega arith) w.in-Some.ensures
+      | in_default-via-in_default w ↦ avoiding_lowest t left a walked chain w.in_default.ensures
+    ]

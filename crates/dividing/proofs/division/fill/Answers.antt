@@ -1,46 +1,40 @@
-use Rattle.std.proofs.Common.{arith}
+use Rattle.std.proofs.Common.{◌≡◌, sym, subst, rules, arith}
 use Rattle.book.specs.Lines.{lines}
-use Rattle.flow.proofs.RuleLaws.{open_some}
-use Rattle.dividing.proofs.Tabled.{filling_none, filling_room, filling_lessens, filling_more, filling_all}
+use Rattle.dividing.specs.Filling.{Filled}
+use Rattle.dividing.proofs.Tabled.{Filling, filling_none, filling_full, filling_more, filling_all}
 use Rattle.dividing.proofs.division.fill.Goals as goal
 
-pub loop-start-init : goal.loop-start-init
-loop-start-init g c =
-    filling_none (g.R.Rule.choice c.args.rule.now) (lines c.args.book.now) c.all_amounts-left.ensures.sound c.args.rows.now c.args.tonnes.now c.all_amounts-left.result c.all_amounts-left.ensures.amounts c.requires.balanced
-
-pub put_numbered-requires : goal.put_numbered-requires
-put_numbered-requires g c =
-    let t = lines c.args.book.now in
-    let source = c.in-Some.ensures in
-    let n = source.some_open.0 in
-    let some = open_some t c.loop-start.left c.in-Some.start n source.some_open.1 in
+pub loop-number-init : goal.loop-number-init
+loop-number-init g c =
+    let made = c.new-division.ensures in
     record {
-      sound = c.all_amounts-left.ensures.sound;
-      fair = c.loop-start.invariant.fair;
-      totals = c.out_totals-outs.ensures.totals;
-      source = source;
-      room = (
-        filling_room (g.R.Rule.choice c.args.rule.now) t c.all_amounts-left.ensures.sound c.args.rows.now c.args.tonnes.now c.loop-start.left c.loop-start.count c.loop-start.rows c.loop-start.tonnes c.loop-start.invariant n some,
-        omega (arith, c.requires.room.0, c.loop-start.invariant.long),
-      );
+      book = made.book;
+      rule = made.rule;
+      filling = filling_none (g.R.Rule.choice c.args.rule.now) (lines c.args.book.now) c.requires.sound c.args.rows.now c.args.tonnes.now c.new-division.result.left made.left;
     }
 
-pub bounds-tonnes-count : goal.bounds-tonnes-count
-bounds-tonnes-count g c =
-    let t = lines c.args.book.now in
-    let source = c.in-Some.ensures in
-    let n = source.some_open.0 in
-    let some = open_some t c.loop-start.left c.in-Some.start n source.some_open.1 in
-    omega (arith, c.requires.room.1, c.loop-start.invariant.long_tonnes, filling_room (g.R.Rule.choice c.args.rule.now) t c.all_amounts-left.ensures.sound c.args.rows.now c.args.tonnes.now c.loop-start.left c.loop-start.count c.loop-start.rows c.loop-start.tonnes c.loop-start.invariant n some)
+pub loop-number-preserved : goal.loop-number-preserved
+loop-number-preserved g c =
+    let so = c.loop-number.invariant in
+    let put = rw (so.rule, so.book) at c.in-Some.ensures.row in
+    record {
+      book = search rules;
+      rule = search rules;
+      filling = filling_more (g.R.Rule.choice c.args.rule.now) (lines c.args.book.now) c.requires.sound c.args.rows.now c.args.tonnes.now c.loop-number.division.left c.loop-number.number c.loop-number.rows c.loop-number.tonnes so.filling c.put_numbered.new.self.left c.put_numbered.new.rows c.in-Some.weight (omega arith) put c.put_numbered.auto.rows;
+    }
 
-pub loop-start-smaller : goal.loop-start-smaller
-loop-start-smaller g c =
-    filling_lessens (g.R.Rule.choice c.args.rule.now) (lines c.args.book.now) c.all_amounts-left.ensures.sound c.args.rows.now c.args.tonnes.now c.loop-start.left c.loop-start.count c.loop-start.rows c.loop-start.tonnes c.loop-start.invariant c.put_numbered.new.left c.put_numbered.new.rows c.put_numbered.result (bounds-tonnes-count g c) c.put_numbered.ensures
-
-pub loop-start-preserved : goal.loop-start-preserved
-loop-start-preserved g c =
-    filling_more (g.R.Rule.choice c.args.rule.now) (lines c.args.book.now) c.all_amounts-left.ensures.sound c.args.rows.now c.args.tonnes.now c.loop-start.left c.loop-start.count c.loop-start.rows c.loop-start.tonnes c.loop-start.invariant c.put_numbered.new.left c.put_numbered.new.rows c.put_numbered.result (bounds-tonnes-count g c) c.put_numbered.ensures c.put_numbered.auto.rows
+pub returns-in_default : goal.returns-in_default
+returns-in_default g c =
+    let nothing = c.in_default.ensures.row in
+    subst (λ rows. Filled (g.R.Rule.choice c.args.rule.now) (lines c.args.book.now) c.args.rows.now c.args.tonnes.now c.loop-number.number rows c.loop-number.tonnes) (sym nothing.1)
+    (filling_all (g.R.Rule.choice c.args.rule.now) (lines c.args.book.now) c.requires.sound c.args.rows.now c.args.tonnes.now c.loop-number.division.left c.loop-number.number c.loop-number.rows c.loop-number.tonnes c.loop-number.invariant.filling nothing.0)
 
 pub returns : goal.returns
 returns g c =
-    filling_all (g.R.Rule.choice c.args.rule.now) (lines c.args.book.now) c.all_amounts-left.ensures.sound c.args.rows.now c.args.tonnes.now c.loop-start.left c.loop-start.count c.loop-start.rows c.loop-start.tonnes c.loop-start.invariant c.in_default.ensures
+    let choice = g.R.Rule.choice c.args.rule.now in
+    let t = lines c.args.book.now in
+    let left = c.loop-number.division.left in
+    let n = c.loop-number.number in
+    let so = c.loop-number.invariant.filling in
+    let all : n ≡ 256 = omega arith in
+    filling_all choice t c.requires.sound c.args.rows.now c.args.tonnes.now left 256 c.loop-number.rows c.loop-number.tonnes (subst (λ k. Filling choice t c.args.rows.now c.args.tonnes.now left k c.loop-number.rows c.loop-number.tonnes) all so) (filling_full choice t c.requires.sound c.args.rows.now c.args.tonnes.now left n c.loop-number.rows c.loop-number.tonnes so c.loop-number-test.false)

@@ -1,20 +1,12 @@
-use Rattle.std.proofs.Common.{◌≡◌, length, subst, arith}
+use Rattle.std.proofs.Common.{rules}
 use Rattle.book.specs.Lines.{lines}
-use Rattle.dividing.proofs.Amounts.{AmountsTo, amounts_none, amounts_more, amounts_all}
+use Rattle.book.specs.Tally.{at}
+use Rattle.book.specs.Totals.{amount_of}
+use Rattle.dividing.proofs.Amounts.{amounts_all, made_by}
 use Rattle.dividing.proofs.left.all_amounts.Goals as goal
-
-pub loop-n-init : goal.loop-n-init
-loop-n-init c = amounts_none (lines c.args.book.now)
-
-pub loop-n-preserved : goal.loop-n-preserved
-loop-n-preserved c =
-    amounts_more (lines c.args.book.now) c.loop-n.n c.loop-n.left c.parts-amount.result.2 (omega arith) c.parts-amount.ensures.amount.0 c.loop-n.invariant
 
 pub returns : goal.returns
 returns c =
     let t = lines c.args.book.now in
-    let ends : c.loop-n.n ≡ length t = omega arith in
-    record {
-      amounts = amounts_all t c.loop-n.left (omega arith) (subst (λ i. AmountsTo t i c.loop-n.left) ends c.loop-n.invariant);
-      sound = c.len-n-end.ensures.sound;
-    }
+    let made = c.from_fn.ensures.items in
+    amounts_all t c.from_fn.result c.requires.0 made.long (λ k lt. made_by _ _ (λ n. amount_of (at t n)) (λ i r q call. search rules) c.from_fn.result 0 256 made.each k (search rules) lt)

@@ -28,6 +28,6 @@ returns t c =
           subst
           (λ bs. Put c.args.page.now c.args.at bs c.put-2.new.page c.put-2.result)
           (sym digits)
-          (put_then _ _ _ _ _ _ _ _ (omega (arith, short)) front c.put-2.ensures);
+          (put_then front c.put-2.ensures);
       short = omega (arith, c.put-2.ensures.place, front.place, short);
     }

@@ -8,6 +8,6 @@ returns c =
     let space = c.put-digits.ensures in
     let digits = c.put_decimal.ensures in
     record {
-      put = put_then _ _ _ _ _ _ _ _ (omega arith) space digits.put;
+      put = put_then space digits.put;
       short = omega (arith, space.place, digits.put.place, length-decimal-le 3 c.args.number (omega arith) (omega arith) (omega arith));
     }

@@ -7,35 +7,35 @@ use Rattle.sheet.specs.Statements.{numbers_text}
 use Rattle.sheet.proofs.Laid.{put_none, put_then}
 use Rattle.sheet.proofs.text.put_numbers.Goals as goal
 
-pub loop-i-init : goal.loop-i-init
-loop-i-init c = (put_none _ _, omega arith)
+pub loop-number-init : goal.loop-number-init
+loop-number-init c = (put_none _ _ (omega arith), omega arith)
 
 pub put_number-end-requires : goal.put_number-end-requires
 put_number-end-requires c =
     record {
-      room = omega (arith, c.loop-i.invariant.1, c.loop-i.auto.page);
-      posted = All-get_or (λ n. n < most_lines) c.args.numbers.now c.loop-i.i 0 c.loop-i-test.true c.requires.posted;
+      room = omega (arith, c.loop-number.invariant.1, c.loop-number.auto.page);
+      posted = All-get_or (λ n. n < most_lines) c.args.numbers.now c.loop-number.number-index 0 c.loop-number-test.true c.requires.posted;
     }
 
-pub loop-i-preserved : goal.loop-i-preserved
-loop-i-preserved c =
+pub loop-number-preserved : goal.loop-number-preserved
+loop-number-preserved c =
     let ns = c.args.numbers.now in
-    let i = c.loop-i.i in
+    let i = c.loop-number.number-index in
     let more : numbers_text (take i ns) ++ (32 ∷ decimal (get_or ns i 0)) ≡ numbers_text (take (i + 1) ns) =
-    flat_map_more (λ n. 32 ∷ decimal n) [] (take i ns) (get_or ns i 0) ∙ ap numbers_text (sym (take_more ns i 0 c.loop-i-test.true)) in
-    let so = c.loop-i.invariant in
+    flat_map_more (λ n. 32 ∷ decimal n) [] (take i ns) (get_or ns i 0) ∙ ap numbers_text (sym (take_more ns i 0 c.loop-number-test.true)) in
+    let so = c.loop-number.invariant in
     let one = c.put_number-end.ensures in (
       subst (λ bs. Put c.args.page.now c.args.at bs c.put_number-end.new.page c.put_number-end.result) more
-          (put_then _ _ _ _ _ _ _ _ (omega (arith, so.0.place, so.1)) so.0 one.put),
+          (put_then so.0 one.put),
       omega (arith, one.short, so.1),
     )
 
 pub returns : goal.returns
 returns c =
     let ns = c.args.numbers.now in
-    let whole = take_all c.loop-i.i ns c.loop-i-test.false in
-    let so = c.loop-i.invariant in
+    let whole = take_all c.loop-number.number-index ns c.loop-number-test.false in
+    let so = c.loop-number.invariant in
     record {
-      put = subst (λ xs. Put c.args.page.now c.args.at (numbers_text xs) c.loop-i.page c.loop-i.end) whole so.0;
+      put = subst (λ xs. Put c.args.page.now c.args.at (numbers_text xs) c.loop-number.page c.loop-number.end) whole so.0;
       short = omega (arith, so.1);
     }

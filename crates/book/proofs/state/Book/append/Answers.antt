@@ -1,5 +1,4 @@
-use Rattle.std.proofs.Common.{ℕ, ◌+◌, ◌<◌, ◌≤◌, length, get_or, sym, ap, ◌∙◌, subst, arith}
-use Rattle.std.proofs.lemmas.List.{length-set}
+use Rattle.std.proofs.Common.{ℕ, ◌+◌, ◌<◌, ◌≤◌, length, get_or, sym, subst, arith}
 use Rattle.book.specs.Limits.{highest_account, greatest_amount}
 use Rattle.book.proofs.Records.{length-lines, kept_more, lines-append}
 use Rattle.book.specs.Records.{blank}
@@ -9,7 +8,7 @@ use Rattle.book.proofs.state.Book.append.Goals as goal
 pub put-requires : goal.put-requires
 put-requires c =
     let n = length-lines c.args.self.now.count c.args.self.now.table.records (omega arith) in
-    record { whole = c.args.self.now.whole; within = omega arith }
+    omega arith
 
 pub invariant_of-self : goal.invariant_of-self
 invariant_of-self c =
@@ -20,7 +19,6 @@ invariant_of-self c =
     λ P all here. subst (λ rs. (k : ℕ) → k < b.count + 1 → P (get_or rs k blank)) (sym c.put.ensures) (kept_more P b.table.records b.count _ within all here) in
     record {
       few = omega arith;
-      whole = ap length c.put.ensures ∙ (length-set b.table.records b.count _ ∙ b.whole);
       upward = held (λ r. r.from < r.to) b.upward c.requires.placed.0;
       placed = held (λ r. r.to ≤ highest_account) b.placed c.requires.placed.1;
       some = held (λ r. 0 < r.amount) b.some c.requires.sized.0;

@@ -5,7 +5,7 @@ use Rattle.book.proofs.state.Book.retire.Goals as goal
 pub retire-requires : goal.retire-requires
 retire-requires c =
     let n = length-lines c.args.self.now.count c.args.self.now.table.records (omega arith) in
-    record { whole = c.args.self.now.whole; within = omega arith }
+    omega arith
 
 pub returns : goal.returns
 returns c =

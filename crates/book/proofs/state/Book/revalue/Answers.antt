@@ -8,7 +8,7 @@ use Rattle.book.proofs.state.Book.revalue.Goals as goal
 pub revalue-requires : goal.revalue-requires
 revalue-requires c =
     let n = length-lines c.args.self.now.count c.args.self.now.table.records (omega arith) in
-    record { whole = c.args.self.now.whole; within = omega arith }
+    omega arith
 
 pub returns : goal.returns
 returns c =

@@ -1,18 +1,9 @@
-use Rattle.std.proofs.Common.{refl, ap, arith}
-use Rattle.flow.specs.Rules.{avoiding}
-use Rattle.dividing.proofs.AvoidingSteps.{avoiding_long}
+use Rattle.std.proofs.Common.{◌-◌, ◌++◌, List, ℕ, length, take, drop, replicate, refl, ap, ◌∙◌}
+use Rattle.std.proofs.lemmas.List.{take_at}
 use Rattle.dividing.proofs.avoiding.Avoiding.new.Goals as goal
 
-pub returns-then-count-gt-LONGEST_CHAIN : goal.returns-then-count-gt-LONGEST_CHAIN
-returns-then-count-gt-LONGEST_CHAIN c = record {
-  held = λ short. absurd (omega (arith, c.if-count-gt-LONGEST_CHAIN.true));
-  none = λ long. refl;
-  same = λ t left a walked. avoiding_long t left a walked c.args.chain.now c.if-count-gt-LONGEST_CHAIN.true;
-}
-
-pub returns : goal.returns
-returns c = record {
-  held = λ short. c.put_lines.ensures;
-  none = λ long. absurd (omega (arith, c.if-count-gt-LONGEST_CHAIN.false));
-  same = λ t left a walked. ap (λ chain. avoiding chain t left a walked) c.put_lines.ensures;
-}
+pub returns-clause-held : goal.returns-clause-held
+returns-clause-held c short =
+    let chain = c.args.chain.now in
+    let rest : List ℕ = drop (length chain - 0) (replicate 63 0) in
+    ap (λ l. take (length chain) (l ++ rest)) c.copy_from_slice.ensures.after ∙ take_at chain rest (length chain) refl

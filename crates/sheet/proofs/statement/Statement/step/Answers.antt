@@ -1,27 +1,50 @@
-use Rattle.std.proofs.Common.{◌≡◌, length, refl, subst, arith, rules}
-use Rattle.book.specs.Lines.{lines}
-use Rattle.sheet.specs.Commands.{meaning}
-use Rattle.sheet.specs.Reading.{read, reading, number, carries}
-use Rattle.sheet.specs.Stepping.{state, Touched}
-use Rattle.sheet.proofs.Printing.{printed, passes, prints_command, prints_refusal}
+use Rattle.std.proofs.Common.{◌≡◌, length, Err, refl, ap, ◌∙◌}
+use Rattle.std.proofs.lemmas.Result.{err_from_is_err_and}
+use Rattle.sheet.specs.declared.command.Fault.TheVariants.{TablesTooSmall}
+use Rattle.sheet.specs.Reading.{checked}
+use Rattle.sheet.specs.Stepping.{state}
+use Rattle.sheet.proofs.FirstParts.{first_part, stepped_whole, refused_whole}
+use Rattle.sheet.proofs.Printing.{passes, small_rows, small_tonnes}
 use Rattle.sheet.proofs.statement.Statement.step.Goals as goal
 
-pub returns-in-Ok-Some : goal.returns-in-Ok-Some
-returns-in-Ok-Some c =
-    let s = c.args.self.now in
-    let did = c.obey.ensures in
-    let is : read (meaning c.in-Ok-Some.found.command) c.in-Ok-Some.found.after ≡ reading s.sheet.now s.place = search rules in
-    let line = printed _ _ _ _ _ _ c.obey.auto.page did.line.put (prints_command (state s) _ did.line.text _ _ c.if-self.false is did.line.obeyed) in
+pub returns-in_err-rows : goal.returns-in_err-rows
+returns-in_err-rows c =
+    let page = rw c.in_ok-page.ensures.ok_part at c.first_chunk_mut.ensures.cases in
+    let few = rw c.in_err-rows.ensures.ok_part at c.first_chunk_mut-2.ensures.cases in
+    let value = rw c.in_err-rows.ensures.ok_part at c.in_err-rows.ensures.value in
+    let p = err_from_is_err_and c.from_residual-in_err-rows.result c.from_residual-in_err-rows.ensures.1 in
+    let is : c.from_residual-in_err-rows.result ≡ Err TablesTooSmall = cc (p.1, p.2, value) in
     record {
-      stop = passes (length c.args.page.now) (length c.args.rows.now) (length c.args.tonnes.now) (omega arith) (omega (arith, c.if-rows-lt-TABLE_ENTRIES.false)) (omega (arith, c.if-tonnes-lt-TABLE_TONNES.false));
-      stepped = (line.0, line.1, subst (Touched (lines s.book) c.args.rows.now c.args.tonnes.now c.obey.new.rows c.obey.new.tonnes) is did.tables);
+      stop = λ o. ap (λ z. checked z o) is ∙ small_rows (length c.args.page.now) (length c.args.rows.now) (length c.args.tonnes.now) page.enough few o;
+      stepped = refused_whole (state c.args.self.now) _ _ _ _ _ _ _ TablesTooSmall is (first_part c.args.page.now c.in_ok-page.page.now 320 page) refl refl;
     }
 
-pub returns-in-Err : goal.returns-in-Err
-returns-in-Err c =
-    let s = c.args.self.now in
-    let line = printed _ _ _ _ _ _ c.refuse.auto.page c.refuse.ensures.page (prints_refusal (state s) _ (number c.in-Err.fault) (carries c.in-Err.fault) c.if-self.false c.in-Err.ensures.answer c.refuse.ensures.next) in
+pub returns-in_err-tonnes : goal.returns-in_err-tonnes
+returns-in_err-tonnes c =
+    let page = rw c.in_ok-page.ensures.ok_part at c.first_chunk_mut.ensures.cases in
+    let rows = rw c.in_ok-rows.ensures.ok_part at c.first_chunk_mut-2.ensures.cases in
+    let few = rw c.in_err-tonnes.ensures.ok_part at c.first_chunk_mut-3.ensures.cases in
+    let value = rw c.in_err-tonnes.ensures.ok_part at c.in_err-tonnes.ensures.value in
+    let p = err_from_is_err_and c.from_residual-in_err-tonnes.result c.from_residual-in_err-tonnes.ensures.1 in
+    let is : c.from_residual-in_err-tonnes.result ≡ Err TablesTooSmall = cc (p.1, p.2, value) in
     record {
-      stop = passes (length c.args.page.now) (length c.args.rows.now) (length c.args.tonnes.now) (omega arith) (omega (arith, c.if-rows-lt-TABLE_ENTRIES.false)) (omega (arith, c.if-tonnes-lt-TABLE_TONNES.false));
-      stepped = (line.0, line.1, subst (Touched (lines s.book) c.args.rows.now c.args.tonnes.now c.args.rows.now c.args.tonnes.now) c.in-Err.ensures.answer (refl, refl));
+      stop = λ o. ap (λ z. checked z o) is ∙ small_tonnes (length c.args.page.now) (length c.args.rows.now) (length c.args.tonnes.now) page.enough few o;
+      stepped =
+          refused_whole (state c.args.self.now) _ _ _ _ _ _ _ TablesTooSmall is (first_part c.args.page.now c.in_ok-page.page.now 320 page)
+          (first_part c.args.rows.now c.in_ok-rows.rows.now 16384 rows)
+          refl;
+    }
+
+pub returns : goal.returns
+returns c =
+    let page = rw c.in_ok-page.ensures.ok_part at c.first_chunk_mut.ensures.cases in
+    let rows = rw c.in_ok-rows.ensures.ok_part at c.first_chunk_mut-2.ensures.cases in
+    let tonnes = rw c.in_ok-tonnes.ensures.ok_part at c.first_chunk_mut-3.ensures.cases in
+    record {
+      stop = passes (length c.args.page.now) (length c.args.rows.now) (length c.args.tonnes.now) page.enough rows.enough tonnes.enough;
+      stepped =
+          stepped_whole (state c.args.self.now) (state c.next_line.new.self) c.args.page.now c.args.rows.now c.args.tonnes.now
+          c.in_ok-page.page.now c.in_ok-rows.rows.now c.in_ok-tonnes.tonnes.now
+          c.next_line.new.page c.next_line.new.rows c.next_line.new.tonnes
+          c.next_line.result page rows tonnes c.next_line.ensures;
     }

@@ -1,0 +1,3 @@
+pub mod Reading
+pub mod CallSteps
+pub mod Repeats

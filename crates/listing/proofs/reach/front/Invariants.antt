@@ -1,7 +1,0 @@
-use Rattle.std.proofs.Common.{take}
-use Rattle.book.specs.Lines.{lines}
-use Rattle.listing.specs.Growth.{Reached}
-use Rattle.listing.proofs.reach.front.Given as goal
-
-abbrev pub invariant-loop-i : goal.invariant-loop-i
-invariant-loop-i l = Reached (lines l.book) l.floor (take l.i l.given) l.reach
