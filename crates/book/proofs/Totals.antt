@@ -1,6 +1,6 @@
 -- The running totals of a book's records. Assumes nothing.
 use Rattle.std.proofs.Common.{◌≡◌, ℕ, ◌+◌, ◌*◌, ◌<◌, ◌≤◌, true, false, cond, eqb, List, map, length, get_or, drop, set, replicate, sym, ap, ◌∙◌, ⊎_elim, arith}
-use Rattle.std.proofs.lemmas.List.{length-replicate, get_or-replicate, at_drop_more, at_drop_all, length-set, get_or-set_same, get_or-set_other}
+use Rattle.std.proofs.lemmas.List.{length-replicate, get_or-replicate, at_drop_more, length-set, get_or-set_same, get_or-set_other}
 use Rattle.std.proofs.lemmas.Bool.{cases_eq, cond-true, cond-false, eq-eqb, ne_eqb}
 use Rattle.book.specs.Limits.{accounts, highest_account, greatest_amount}
 use Rattle.book.specs.Records.{line_of, blank, account_of}
@@ -73,10 +73,6 @@ running_none s rs = record {
   part = λ a within. omega (arith, get_or-replicate {A = ℕ} accounts a 0 0 within);
   small = λ a within. omega (arith, get_or-replicate {A = ℕ} accounts a 0 0 within);
 }
-
-pub running_all : (s : Side) (rs : List Record) (sums : List ℕ) → Running s rs (length rs) sums → (a : ℕ) → a < accounts → get_or sums a 0 ≡ total (figure s a) (map line_of rs)
-running_all s rs sums run a within =
-    omega (arith, run.part a within, at_drop_all (λ xs. total (figure s a) (map line_of xs)) rs (length rs) (omega arith))
 
 pub account_within : (s : Side) (r : Record) → r.from < r.to → r.to ≤ highest_account → account_of s r < accounts
 account_within In r up placed = omega arith

@@ -13,11 +13,6 @@ pub excess_last : (t : Tally) (c : List ℕ) (n : ℕ) → 0 < length c → exce
 excess_last t [] n some = absurd (omega arith)
 excess_last t (m ∷ c) n some = excess_on_last t (pos (amount_of (at t m))) c n
 
-pub excess_one : (t : Tally) (c : List ℕ) → length c ≡ 1 → excess t c ≡ pos (amount_of (at t (get_or c 0 0)))
-excess_one t [] one = absurd (omega arith)
-excess_one t (n ∷ []) one = refl
-excess_one t (n ∷ m ∷ c) one = absurd (omega arith)
-
 -- a chain of two or more lines, by its front and its last line
 pub excess_front : (t : Tally) (c : List ℕ) (k : ℕ) → 0 < k → length c ≡ k + 1 → excess t c ≡ joined t (excess t (take k c)) (get_or c k 0)
 excess_front t c k some long =

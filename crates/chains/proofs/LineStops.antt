@@ -1,6 +1,6 @@
 -- The stops of a chain's lines, one line after the other, and the chain where none is met. Assumes nothing.
 use Rattle.std.proofs.Common.{◌≡◌, ℕ, ◌+◌, ◌<◌, ◌≤◌, true, leb, List, [], ◌∷◌, length, get_or, drop, Some, None, Option, refl, ◌∙◌, arith}
-use Rattle.std.proofs.lemmas.List.{at_drop_more, at_drop_all}
+use Rattle.std.proofs.lemmas.List.{at_drop_more}
 use Rattle.std.proofs.lemmas.Bool.{and_from, not-false, le-leb}
 use Rattle.std.specs.List.{AllByRecursion}
 use Rattle.book.specs.Outcome.{Outcome, stopped}
@@ -14,9 +14,6 @@ pub lines_step : (t : Tally) (i : ℕ) (before : Option ℕ) (c : List ℕ) (o :
 lines_step t i before c o h =
     at_drop_more (λ d. stopped (lines_stops t i before d) o) c i 0 h
     ∙ stopped-append (line_stops t i before (get_or c i 0)) (lines_stops t (i + 1) (Some (to_of (at t (get_or c i 0)))) (drop (i + 1) c)) o
-
-pub lines_end : (t : Tally) (i : ℕ) (before : Option ℕ) (c : List ℕ) (o : Outcome) → length c ≤ i → stopped (lines_stops t i before (drop i c)) o ≡ o
-lines_end t i before c o h = at_drop_all (λ d. stopped (lines_stops t i before d) o) c i h
 
 -- where no stop is met the lines are linked
 unmet_runs : (t : Tally) (p a : ℕ) (c : List ℕ) → AllByRecursion Unmet (lines_stops t p (Some a) c) → runs t a c ≡ true

@@ -1,11 +1,8 @@
 use Rattle.std.proofs.Common.{[], arith}
 use Rattle.book.specs.Logs.{calls_of}
 use Rattle.book.proofs.Tallies.{tally_well_formed}
-use Rattle.book.proofs.Logs.{half_none, half_more, half_all}
+use Rattle.book.proofs.Logs.{half_more, half_all}
 use Rattle.book.proofs.run.replay_log.Goals as goal
-
-pub loop-entry-init : goal.loop-entry-init
-loop-entry-init c = half_none _ _ c.new-book.ensures
 
 pub loop-entry-preserved : goal.loop-entry-preserved
 loop-entry-preserved c = half_more _ _ _ _ _ _ _ (omega arith) c.loop-entry.invariant c.enter.ensures.answer c.enter.ensures.lines

@@ -1,21 +1,10 @@
-use Rattle.std.proofs.Common.{◌≡◌, ◌-◌, ◌<◌, length, pos, ap, ◌∙◌, arith, ltb-false, ltb-true}
+use Rattle.std.proofs.Common.{◌-◌, ◌<◌, length, pos, ap, ◌∙◌, arith, ltb-false, ltb-true}
 use Rattle.std.proofs.lemmas.Int.{ints}
 use Rattle.std.proofs.lemmas.List.{length-take}
 use Rattle.book.specs.Lines.{lines}
 use Rattle.book.specs.Totals.{in_total}
-use Rattle.chains.proofs.Excess.{excess_one, excess_front}
+use Rattle.chains.proofs.Excess.{excess_front}
 use Rattle.chains.proofs.certainty.+excess_of.Goals as goal
-
-pub returns-in-len1 : goal.returns-in-len1
-returns-in-len1 t c =
-    let chain = c.args.chain.now in
-    let one : length chain ≡ 1 = omega (arith, ltb-true, ltb-false) in
-    let amount = c.parts.ensures.amount in
-    record {
-      value = omega (arith, ints, ap pos amount.0, excess_one (lines c.args.book.now) chain one);
-      low = omega (arith, ints);
-      high = omega (arith, ints, amount.1, one);
-    }
 
 pub returns-in-len1-up : goal.returns-in-len1-up
 returns-in-len1-up t c =

@@ -1,21 +1,10 @@
 use Rattle.std.proofs.Common.{◌≡◌, ap, ◌∙◌, arith, w64, to_z, of_z}
-use Rattle.std.proofs.lemmas.Result.{err_from_is_err_and, IfOk-from_err}
 use Rattle.std.proofs.lemmas.Int.{ints}
 use Rattle.book.specs.Lines.{lines}
 use Rattle.flow.proofs.Certainty.{figure_is_least}
 use Rattle.flow.specs.Excess.{excess}
-use Rattle.chains.proofs.Stops.{through}
 use Rattle.chains.specs.Certainty.{by_excess}
 use Rattle.chains.proofs.certainty.certain.Goals as goal
-
-pub returns-in_err-check_chain : goal.returns-in_err-check_chain
-returns-in_err-check_chain c =
-    let p = err_from_is_err_and c.from_residual.result c.from_residual.ensures.1 in
-    record {
-      stop = λ o. through c.from_residual.result p.0 _ _ o p.1 p.2 (c.in_err-check_chain.ensures.stop o);
-      answer = IfOk-from_err c.from_residual.result _ c.from_residual.ensures.0;
-      agreed = IfOk-from_err c.from_residual.result _ c.from_residual.ensures.0;
-    }
 
 pub returns : goal.returns
 returns c =

@@ -4,7 +4,7 @@ use Rattle.book.specs.Lines.{lines}
 use Rattle.book.specs.Outcome.{stopped}
 use Rattle.book.specs.Tally.{at}
 use Rattle.flow.specs.Chains.{to_of}
-use Rattle.chains.proofs.LineStops.{lines_step, lines_end}
+use Rattle.chains.proofs.LineStops.{lines_step}
 use Rattle.chains.proofs.Stops.{through}
 use Rattle.chains.specs.Stops.{lines_stops}
 use Rattle.chains.proofs.checks.check_lines.Goals as goal
@@ -27,6 +27,3 @@ loop-place-preserved c = λ o.
     ap (λ a. stopped (lines_stops t (i + 1) (Some a) (drop (i + 1) chain)) o) c.in_ok-check_line.ensures.entered
     ∙ (c.in_ok-check_line.ensures.stop (stopped (lines_stops t (i + 1) (Some (to_of (at t (get_or chain i 0)))) (drop (i + 1) chain)) o)
     ∙ (sym (lines_step t i c.loop-place.before chain o c.loop-place-test.true) ∙ c.loop-place.invariant o))
-
-pub returns : goal.returns
-returns c = λ o. sym (lines_end (lines c.args.book.now) c.loop-place.place c.loop-place.before c.args.chain.now o c.loop-place-test.false) ∙ c.loop-place.invariant o

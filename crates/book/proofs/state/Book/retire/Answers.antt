@@ -2,11 +2,6 @@ use Rattle.std.proofs.Common.{arith}
 use Rattle.book.proofs.Records.{length-lines, lines-set}
 use Rattle.book.proofs.state.Book.retire.Goals as goal
 
-pub retire-requires : goal.retire-requires
-retire-requires c =
-    let n = length-lines c.args.self.now.count c.args.self.now.table.records (omega arith) in
-    omega arith
-
 pub returns : goal.returns
 returns c =
     let b = c.args.self.now in

@@ -5,11 +5,6 @@ use Rattle.book.specs.Tally.{with_amount}
 use Rattle.book.proofs.Records.{length-lines, lines-set, at-lines, line_of-revalued}
 use Rattle.book.proofs.state.Book.revalue.Goals as goal
 
-pub revalue-requires : goal.revalue-requires
-revalue-requires c =
-    let n = length-lines c.args.self.now.count c.args.self.now.table.records (omega arith) in
-    omega arith
-
 pub returns : goal.returns
 returns c =
     let b = c.args.self.now in

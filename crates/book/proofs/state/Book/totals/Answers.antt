@@ -1,6 +1,6 @@
-use Rattle.std.proofs.Common.{◌≡◌, ◌<◌, ◌≤◌, get_or, take, sym, refl, ◌∙◌, subst, arith}
+use Rattle.std.proofs.Common.{◌<◌, ◌≤◌, get_or, take, sym, refl, subst, arith}
 use Rattle.std.proofs.lemmas.List.{length-take-le, get_or-take}
-use Rattle.book.proofs.Totals.{Running, running_none, running_live, running_struck, running_all, account_within}
+use Rattle.book.proofs.Totals.{running_none, running_live, running_struck, account_within}
 use Rattle.book.specs.Limits.{highest_account, greatest_amount}
 use Rattle.book.specs.Records.{blank}
 use Rattle.book.specs.declared.table.Record.{Record}
@@ -24,13 +24,3 @@ loop-record-preserved c =
           rw w.sums-is (running_live _ _ _ _ c.loop-record.invariant _ _ (omega arith) refl w.account.ensures w.if-record.true (omega (arith, w.account.ensures)) (held (λ r. r.amount ≤ greatest_amount) (b.sized i below)))
       | else-record w ↦ rw w.sums-is (running_struck _ _ _ _ c.loop-record.invariant (omega arith) w.if-record.false)
     ]
-
-pub returns : goal.returns
-returns c =
-    let b = c.args.self.now in
-    let long = length-take-le b.count b.table.records (omega arith) in
-    let ends : c.loop-record.record-index ≡ b.count = omega arith in
-    record {
-      totals = running_all c.args.side (take b.count b.table.records) c.loop-record.sums (subst (λ n. Running c.args.side (take b.count b.table.records) n c.loop-record.sums) (ends ∙ sym long) c.loop-record.invariant);
-      bound = λ a within. omega (arith, c.loop-record.invariant.small a within);
-    }
