@@ -1,6 +1,6 @@
 -- Bytes put on a page one after the other. Assumes nothing.
-use Rattle.std.proofs.Common.{◌≡◌, ℕ, ◌+◌, ◌≤◌, List, [], ◌++◌, length, take, drop, sym, ap, ◌∙◌, arith}
-use Rattle.std.proofs.lemmas.List.{append_assoc, length-append, length-take-le, length-drop, take_at, drop_at, drop-drop, take-append-drop}
+use Rattle.std.proofs.Common.{◌≡◌, ℕ, ◌+◌, ◌≤◌, List, ◌++◌, length, take, drop, sym, ap, ◌∙◌, arith}
+use Rattle.std.proofs.lemmas.List.{append_assoc, length-append, length-take-le, length-drop, take_at, drop_at, drop-drop}
 use Rattle.book.specs.Overlay.{laid, over}
 use Rattle.sheet.specs.Page.{Put}
 
@@ -41,10 +41,3 @@ put_then {page} {a} {b} {p} {q} {at} {r} {s} one two = record {
 
 pub over_from_put : (page bs p : List ℕ) (r : ℕ) → Put page 0 bs p r → (p ≡ over page bs) × (r ≡ length bs)
 over_from_put page bs p r put = (put.page ∙ ap (λ n. bs ++ drop n page) (omega arith), omega (arith, put.place))
-
-pub put_none : (page : List ℕ) (at : ℕ) → at ≤ length page → Put page at [] page at
-put_none page at within = record {
-  page = sym (take-append-drop at page) ∙ ap (λ n. take at page ++ drop n page) (omega arith);
-  place = omega arith;
-  within = omega arith;
-}

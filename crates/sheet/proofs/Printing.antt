@@ -1,6 +1,5 @@
 -- From a line put on the page to a step of the statement. Assumes nothing.
-use Rattle.std.proofs.Common.{◌≡◌, ℕ, ◌<◌, ◌≤◌, Bool, true, false, cond, List, ◌++◌, length, take, drop, sym, refl, ap, ◌∙◌, subst, arith}
-use Rattle.std.proofs.lemmas.List.{take_at}
+use Rattle.std.proofs.Common.{◌≡◌, ℕ, ◌<◌, ◌≤◌, Bool, true, false, cond, List, length, sym, refl, ap, ◌∙◌, subst, arith}
 use Rattle.std.proofs.lemmas.Bool.{cond-true, cond-false, or_left, or_right, or_from, le-ltb, lt-ltb}
 use Rattle.book.specs.Outcome.{Outcome}
 use Rattle.dividing.specs.Tables.{table_entries, table_tonnes}
@@ -47,9 +46,3 @@ small_rows page entries tonnes room few o =
 pub small_tonnes : (page entries tonnes : ℕ) → shortest_page ≤ page → tonnes < table_tonnes → (o : Outcome) → refusal TablesTooSmall ≡ step_stopped page entries tonnes o
 small_tonnes page entries tonnes room few o =
     sym (cond-false _ _ _ (le-ltb page shortest_page room) ∙ cond-true _ _ _ (or_right _ _ (lt-ltb tonnes table_tonnes few)))
-
--- the line that a step printed, added to an output
-pub line_added : (a b : State) (page after l : List ℕ) (n : ℕ) (out grown : List ℕ) → n ≡ length l → Printed a b page after l → grown ≡ out ++ take n after → (m : List ℕ) × Prints a m b × (grown ≡ out ++ m)
-line_added a b page after l n out grown count on-page output =
-    let part : take n after ≡ l = ap (take n) on-page.page ∙ take_at l (drop (length l) page) n (sym count) in
-    (l, on-page.prints, output ∙ ap (λ z. out ++ z) part)

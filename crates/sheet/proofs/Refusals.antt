@@ -1,37 +1,17 @@
--- What is printed of refusals that have no detail. Assumes nothing.
-use Rattle.std.proofs.Common.{◌≡◌, ℕ, Bool, [], ◌∷◌, codes, sym, refl, ap, ◌∙◌, ⊎_elim, arith}
-use Rattle.std.proofs.lemmas.List.{append-nil}
+-- What refuses a question that is handed no chain: never a line of one. Assumes nothing.
+use Rattle.std.proofs.Common.{◌≡◌, ℕ, Bool, [], ◌∷◌, sym, ap, ◌∙◌, ⊎_elim, arith}
 use Rattle.std.proofs.lemmas.Bool.{cases_Bool, cond-true, cond-false}
 use Rattle.book.specs.Limits.{accounts}
 use Rattle.book.specs.Outcome.{book, chain, answers, refuses, stop, stopped}
 use Rattle.book.specs.Search.{some_of}
 use Rattle.book.specs.Tally.{Tally}
 use Rattle.book.specs.Totals.{balance_stops, differs}
-use Rattle.chains.specs.Faults.{layer_of as chain_layer, number as chain_number, carries as chain_carries, refusal}
+use Rattle.chains.specs.Faults.{refusal}
 use Rattle.chains.specs.declared.faults.Fault.{Fault as ChainFault}
-use Rattle.chains.specs.declared.faults.Fault.TheVariants.{Line, Gap, Length, TooSmall, NoFloor, Book}
+use Rattle.chains.specs.declared.faults.Fault.TheVariants.{Line}
 use Rattle.book.specs.Faults.{number, carries}
 use Rattle.book.specs.declared.entries.Fault.{Fault}
 use Rattle.book.specs.declared.entries.Fault.TheVariants.{Full, AccountTooHigh, NotUpward, AmountOutOfLimits, NotPosted, LineStruck, Unbalanced}
-use Rattle.sheet.specs.Statements.{detail, refusal_head, refusal_text}
-
-pub no_detail : (f : Fault) → ((a i o : ℕ) → f ≡ Unbalanced a i o → ⊥) → detail (number f) (carries f) ≡ []
-no_detail Full other = refl
-no_detail (AccountTooHigh account) other = refl
-no_detail NotUpward other = refl
-no_detail (AmountOutOfLimits amount) other = refl
-no_detail (NotPosted line) other = refl
-no_detail (LineStruck line) other = refl
-no_detail (Unbalanced account entering leaving) other = absurd (other account entering leaving refl)
-
--- a refusal that is none of the book's has the chain's layer, and no detail
-pub plain_chain : (e : ChainFault) → ((p : ℕ) (f : Fault) → e ≡ Line p f → ⊥) → ((f : Fault) → e ≡ Book f → ⊥) → (n p : ℕ) → n ≡ chain_number e → refusal_head (codes "chain") n p ≡ refusal_text (chain_layer e) (chain_number e) (chain_carries e) p
-plain_chain (Line place fault) other whole n p is = absurd (other place fault refl)
-plain_chain (Gap place) other whole n p is = ap (λ k. refusal_head (codes "chain") k p) is ∙ sym (append-nil (refusal_head (codes "chain") 9 p))
-plain_chain (Length length) other whole n p is = ap (λ k. refusal_head (codes "chain") k p) is ∙ sym (append-nil (refusal_head (codes "chain") 8 p))
-plain_chain TooSmall other whole n p is = ap (λ k. refusal_head (codes "chain") k p) is ∙ sym (append-nil (refusal_head (codes "chain") 10 p))
-plain_chain NoFloor other whole n p is = ap (λ k. refusal_head (codes "chain") k p) is ∙ sym (append-nil (refusal_head (codes "chain") 11 p))
-plain_chain (Book fault) other whole n p is = absurd (whole fault refl)
 
 -- a question that no line of a chain is handed to is refused by a stop of the chain's own, or for the balance
 line_carries : (g : Fault) (r u v w : ℕ) → refuses book (number g) (r ∷ carries g) ≡ refuses book 7 (u ∷ v ∷ w ∷ []) → ⊥

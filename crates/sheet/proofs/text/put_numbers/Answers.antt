@@ -1,21 +1,9 @@
-use Rattle.std.proofs.Common.{◌≡◌, ◌+◌, ◌<◌, [], ◌∷◌, ◌++◌, get_or, take, decimal, sym, ap, ◌∙◌, subst, arith}
-use Rattle.book.specs.Limits.{most_lines}
-use Rattle.std.proofs.ByRecursion.{All-get_or}
-use Rattle.std.proofs.lemmas.List.{flat_map_more, take_more, take_all}
+use Rattle.std.proofs.Common.{◌≡◌, ◌+◌, [], ◌∷◌, ◌++◌, get_or, take, decimal, sym, ap, ◌∙◌, subst, arith}
+use Rattle.std.proofs.lemmas.List.{flat_map_more, take_more}
 use Rattle.sheet.specs.Page.{Put}
 use Rattle.sheet.specs.Statements.{numbers_text}
-use Rattle.sheet.proofs.Laid.{put_none, put_then}
+use Rattle.sheet.proofs.Laid.{put_then}
 use Rattle.sheet.proofs.text.put_numbers.Goals as goal
-
-pub loop-number-init : goal.loop-number-init
-loop-number-init c = (put_none _ _ (omega arith), omega arith)
-
-pub put_number-end-requires : goal.put_number-end-requires
-put_number-end-requires c =
-    record {
-      room = omega (arith, c.loop-number.invariant.1, c.loop-number.auto.page);
-      posted = All-get_or (λ n. n < most_lines) c.args.numbers.now c.loop-number.number-index 0 c.loop-number-test.true c.requires.posted;
-    }
 
 pub loop-number-preserved : goal.loop-number-preserved
 loop-number-preserved c =
@@ -29,13 +17,3 @@ loop-number-preserved c =
           (put_then so.0 one.put),
       omega (arith, one.short, so.1),
     )
-
-pub returns : goal.returns
-returns c =
-    let ns = c.args.numbers.now in
-    let whole = take_all c.loop-number.number-index ns c.loop-number-test.false in
-    let so = c.loop-number.invariant in
-    record {
-      put = subst (λ xs. Put c.args.page.now c.args.at (numbers_text xs) c.loop-number.page c.loop-number.end) whole so.0;
-      short = omega (arith, so.1);
-    }
