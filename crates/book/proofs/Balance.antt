@@ -1,10 +1,10 @@
 -- From equal totals by account to balance, and what every book has. Assumes nothing.
-use Rattle.std.proofs.Common.{◌≡◌, ℕ, ◌<◌, ◌≤◌, true, false, cond, not, ◌&&◌, eqb, List, [], ◌∷◌, length, get_or, Ok, Err, Result, sym, refl, ap, ◌∙◌, subst, ⊎_elim, arith}
+use Rattle.std.proofs.Common.{◌≡◌, ℕ, ◌<◌, ◌≤◌, true, false, cond, not, ◌&&◌, eqb, List, [], ◌∷◌, get_or, Ok, Err, Result, sym, refl, ap, ◌∙◌, subst, ⊎_elim, arith}
 use Rattle.std.proofs.ByRecursion.{All-from_get_or}
 use Rattle.std.proofs.lemmas.Bool.{cases_Bool, cases_lt, cond-true, cond-false, or_cases, or_left, or_right, and_from, and_parts, eqb-true, eqb-false, ne_eqb, not-true, not_from_false, both_ways}
 use Rattle.std.specs.List.{AllByRecursion}
 use Rattle.book.specs.Faults.{refusal, checked}
-use Rattle.book.specs.Limits.{accounts, highest_account, most_lines, greatest_amount}
+use Rattle.book.specs.Limits.{accounts, highest_account, greatest_amount}
 use Rattle.book.specs.Lines.{lines}
 use Rattle.book.specs.Outcome.{Outcome, book, refuses, stopped}
 use Rattle.book.specs.Records.{line_of, blank}
@@ -18,7 +18,7 @@ use Rattle.book.specs.declared.state.Book.{Book}
 use Rattle.book.specs.declared.table.Record.{Record}
 use Rattle.book.specs.declared.table.Side.{Side}
 use Rattle.book.specs.declared.table.Side.TheVariants.{In, Out}
-use Rattle.book.proofs.Records.{length-lines, at-lines}
+use Rattle.book.proofs.Records.{length-taken, at-lines}
 use Rattle.book.proofs.Search.{lowest_of_first, some_of_true, some_of_false}
 
 -- a live line that touches an account has an amount, and the account is one there is
@@ -94,9 +94,9 @@ sound_record : (r : Record) → r.from < r.to → r.to ≤ highest_account → 0
 sound_record r up placed some sized =
     elim r.live as (λ v. Sound (cond v (Live r.from r.to r.amount) Struck)) [ true ↦ (up, placed, some, sized) | false ↦ tt ]
 
-pub well_formed : (b : Book) → length b.table.records ≡ most_lines → WellFormed (lines b)
-well_formed b whole =
-    let long = length-lines b.count b.table.records (omega arith) in (
+pub well_formed : (b : Book) → WellFormed (lines b)
+well_formed b =
+    let long = length-taken b.count b.table.records in (
       omega arith,
       All-from_get_or Sound (lines b) Struck (λ i within.
           let h : i < b.count = omega arith in

@@ -7,5 +7,5 @@ pub returns : goal.returns
 returns c = record {
   count = sym (length-lines _ c.args.self.now.table.records (omega arith));
   few = omega arith;
-  sound = well_formed c.args.self.now (omega arith);
+  sound = well_formed c.args.self.now;
 }

@@ -11,7 +11,7 @@ pub returns-in_err-record : goal.returns-in_err-record
 returns-in_err-record c =
     let b = c.args.self.now in
     let past = ap (ltb c.args.number) (length-map (take b.count b.table.records) line_of) ∙ sym c.in_err-record.ensures.lookup.0 in
-    record { line = c.from_residual.ensures ∙ sym (cond-false _ _ _ past); sound = well_formed b (omega arith) }
+    record { line = c.from_residual.ensures ∙ sym (cond-false _ _ _ past); sound = well_formed b }
 
 pub returns : goal.returns
 returns c =
@@ -23,5 +23,5 @@ returns c =
       line =
           ap Some (c.from.ensures ∙ (ap line_of (c.in_ok-record.ensures.lookup.3.1 blank ∙ get_or-take b.count b.table.records c.args.number blank below) ∙ sym (at-lines b.table.records b.count c.args.number below (omega arith))))
           ∙ sym (cond-true _ _ _ (lt-ltb c.args.number (length (lines b)) (omega arith)));
-      sound = well_formed b (omega arith);
+      sound = well_formed b;
     }

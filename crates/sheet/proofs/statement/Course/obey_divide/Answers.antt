@@ -19,7 +19,7 @@ say_row-requires c =
     let i = c.args.self.now.count in
     let entries : table_entries ≤ length c.args.rows.now = omega arith in
     let within = c.if-row-count.true in
-    let formed = well_formed book (omega arith) in
+    let formed = well_formed book in
     record {
       within = row_inside (rule_of c.args.rule) (lines book) formed _ _ _ _ _ filled entries i within;
       short = row_entry (rule_of c.args.rule) (lines book) formed _ _ _ _ _ filled entries i within;
@@ -40,7 +40,7 @@ returns-then-row-count c =
     let i = c.args.self.now.count in
     let entries : table_entries ≤ length c.args.rows.now = omega arith in
     let within = c.if-row-count.true in
-    let formed = well_formed c.args.self.now.book (omega arith) in
+    let formed = well_formed c.args.self.now.book in
     let chain = row_in_lem (rule_of c.args.rule) s.tally formed _ _ _ _ _ filled entries i within in
     let weight = row_weight (rule_of c.args.rule) s.tally formed _ _ _ _ _ filled entries i within in
     record {
@@ -59,7 +59,7 @@ returns-else-row-count c =
     let s = running c.args.self.now in
     let filled = c.in-Ok.ensures.filled in
     let entries : table_entries ≤ length c.args.rows.now = omega arith in
-    let formed = well_formed c.args.self.now.book (omega arith) in
+    let formed = well_formed c.args.self.now.book in
     record {
       line = record {
         text = text_line (codes "divided " ++ decimal c.in-Ok.count);

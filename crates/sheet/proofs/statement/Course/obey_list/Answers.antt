@@ -15,7 +15,7 @@ say_chain-requires c =
     let moved : Moved (lines book) c.args.floor c.args.self.now.last.items (Ok (Some c.in-Ok-Some.figure)) c.go_to_next.new.last.items = search rules in
     record {
       short = (omega arith, c.as_slice.ensures.fits);
-      posted = subst (AllByRecursion (λ n. n < most_lines)) (sym c.as_slice.ensures.value) (chain-posted (lines book) c.go_to_next.new.last.items (well_formed book (omega arith)) moved.0.greatest.chain);
+      posted = subst (AllByRecursion (λ n. n < most_lines)) (sym c.as_slice.ensures.value) (chain-posted (lines book) c.go_to_next.new.last.items (well_formed book) moved.0.greatest.chain);
     }
 
 pub say_chain_refusal-requires : goal.say_chain_refusal-requires
