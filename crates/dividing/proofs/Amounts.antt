@@ -1,36 +1,70 @@
 -- The tonnes left: the amounts at first, and what is taken off the lines of a row. Assumes nothing.
-use Rattle.std.proofs.Common.{◌≡◌, ◌≢◌, ℕ, zero, suc, ◌+◌, ◌-◌, ◌<◌, ◌≤◌, false, eqb, List, [], ◌∷◌, map, length, get_or, drop, set, replicate, sym, refl, ap, ◌∙◌, subst, ⊎_elim, arith}
-use Rattle.std.proofs.lemmas.List.{ext_get_or, length-replicate, length-append, length-map, length-set, drop_more, get_or-set_other, set_comm}
-use Rattle.std.proofs.lemmas.Bool.{cases_eq, eqb-false, or_parts}
-use Rattle.std.specs.Array.{IsFromFnResultFrom}
-use Rattle.std.specs.Fn.{Called}
+--   AmountsTo   the amounts of the lines below a number stand in a list of zeros
+use Rattle.std.proofs.Common.{◌≡◌, ◌≢◌, ℕ, zero, suc, ◌+◌, ◌-◌, ◌<◌, ◌≤◌, true, false, Bool, cond, eqb, List, [], ◌∷◌, map, length, get_or, drop, set, replicate, sym, refl, ap, ◌∙◌, subst, ⊎_elim, arith}
+use Rattle.std.proofs.lemmas.List.{ext_get_or, length-replicate, length-append, length-map, length-set, get_or_past, drop_more, get_or-set_same, get_or-set_other, set_comm}
+use Rattle.std.proofs.lemmas.Bool.{cases_eq, cases_lt, eqb-false, or_parts}
 use Rattle.std.specs.List.{AllByRecursion}
-use denote.Param.Members.{Mut}
 use Rattle.book.specs.Limits.{most_lines}
 use Rattle.book.specs.Tally.{Tally, at}
-use Rattle.book.specs.Totals.{amount_of}
+use Rattle.book.specs.Totals.{amount_of, enters, leaves}
+use Rattle.book.specs.declared.entries.Line.{Line}
+use Rattle.book.specs.declared.entries.Line.TheVariants.{Struck}
 use Rattle.flow.proofs.Infix.{Apart, holds_one_step}
-use Rattle.flow.proofs.TonnesLeft.{get_or-amounts, Bears}
+use Rattle.flow.proofs.TonnesLeft.{weigh, get_or-amounts, get_or_zeros, Bears}
+use Rattle.flow.proofs.Walks.{Fair}
 use Rattle.flow.specs.Dividing.{amounts, off}
 use Rattle.flow.specs.Splits.{holds}
+
+cond-same : (b : Bool) (n : ℕ) → cond b n n ≡ n
+cond-same b n = elim b as (λ v. cond v n n ≡ n) [ true ↦ refl | false ↦ refl ]
+
+weigh-zeros : (p : Line → Bool) (t : Tally) (m : ℕ) → weigh p t (replicate m 0) ≡ 0
+weigh-zeros p [] m = refl
+weigh-zeros p (l ∷ t) zero = refl
+weigh-zeros p (l ∷ t) (suc m) = omega (arith, cond-same (p l) 0, weigh-zeros p t m)
+
+-- no tonnes on any line are fair
+pub fair_zeros : (t : Tally) → Fair t (replicate most_lines 0)
+fair_zeros t = record {
+  whole = length-replicate {A = ℕ} most_lines 0;
+  spent = λ n struck. get_or_zeros most_lines n;
+  even = λ a entered left-on. weigh-zeros (enters a) t most_lines ∙ sym (weigh-zeros (leaves a) t most_lines);
+}
+
+pub record AmountsTo (t : Tally) (i : ℕ) (left : List ℕ) : Type 0 where
+  pub whole : length left ≡ most_lines
+  pub filled : (k : ℕ) → k < i → get_or left k 0 ≡ amount_of (at t k)
+  pub blank : (k : ℕ) → i ≤ k → get_or left k 0 ≡ 0
+
+pub amounts_none : (t : Tally) → AmountsTo t 0 (replicate most_lines 0)
+amounts_none t = record {
+  whole = length-replicate {A = ℕ} most_lines 0;
+  filled = λ k lt. absurd (omega arith);
+  blank = λ k ge. get_or_zeros most_lines k;
+}
+
+pub amounts_more : (t : Tally) (i : ℕ) (left : List ℕ) (amount : ℕ) → i < most_lines → amount ≡ amount_of (at t i) → AmountsTo t i left → AmountsTo t (i + 1) (set left i amount)
+amounts_more t i left amount within is so = record {
+  whole = length-set left i amount ∙ so.whole;
+  filled = λ k lt.
+      ⊎_elim
+      (λ same. ap (λ j. get_or (set left i amount) j 0) same ∙ (get_or-set_same left i amount 0 (omega (arith, so.whole)) ∙ (is ∙ ap (λ j. amount_of (at t j)) (sym same))))
+      (λ other. get_or-set_other left i k amount 0 other ∙ so.filled k (omega arith))
+      (cases_eq k i);
+  blank = λ k ge. get_or-set_other left i k amount 0 (λ same. omega arith) ∙ so.blank k (omega arith);
+}
 
 length-amounts : (t : Tally) → length t ≤ most_lines → length (amounts t) ≡ most_lines
 length-amounts t few =
     omega (arith, length-append (map amount_of t) (replicate (most_lines - length t) 0), length-map t amount_of, length-replicate {A = ℕ} (most_lines - length t) 0)
 
-pub amounts_all : (t : Tally) (left : List ℕ) → length t ≤ most_lines → length left ≡ most_lines → ((k : ℕ) → k < most_lines → get_or left k 0 ≡ amount_of (at t k)) → left ≡ amounts t
-amounts_all t left few long filled =
-    ext_get_or 0 left (amounts t) (long ∙ sym (length-amounts t few)) (λ k lt. filled k (omega (arith, long)) ∙ sym (get_or-amounts t k))
-
--- an array made by calls that each leave the closure as it was and answer what h says
-pub made_by : {F : Type 0} (g : Mut F (ℕ × Unit {0}) ℕ) (f : F) (h : ℕ → ℕ) → ((i r : ℕ) (q : F) → Called g f (i, tt) r q → (q ≡ f) × (r ≡ h i)) → (ys : List ℕ) (i n : ℕ) → IsFromFnResultFrom g f ys i n → (k : ℕ) → i ≤ k → k < i + n → get_or ys k 0 ≡ h k
-made_by g f h each ys i zero made k ge lt = absurd (omega arith)
-made_by g f h each ys i (suc n) (q, y, item, call, made) k ge lt =
-    let at = each i y q call in
+pub amounts_all : (t : Tally) (left : List ℕ) → length t ≤ most_lines → AmountsTo t (length t) left → left ≡ amounts t
+amounts_all t left few so =
+    ext_get_or 0 left (amounts t) (so.whole ∙ sym (length-amounts t few)) (λ i lt.
     ⊎_elim
-    (λ same. ap (λ j. get_or ys j 0) same ∙ (item.1 0 ∙ (at.1 ∙ ap h (sym same))))
-    (λ other. made_by g f h each ys (i + 1) n (subst (λ p. IsFromFnResultFrom g p ys (i + 1) n) at.0 made) k (omega arith) (omega arith))
-    (cases_eq k i)
+    (λ posted. so.filled i posted ∙ sym (get_or-amounts t i))
+    (λ past. so.blank i past ∙ sym (get_or-amounts t i ∙ ap amount_of (get_or_past t i Struck past)))
+    (cases_lt i (length t)))
 
 -- a line that is not among those that are taken off
 module _ (ws : List ℕ) (k n v : ℕ) where

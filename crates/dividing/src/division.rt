@@ -11,7 +11,7 @@ ghost use Rattle.dividing.specs.Tables.{table_entries, table_tonnes, divide_stop
 use crate::rules::Rule;
 use crate::state::Division;
 use crate::tables::check_tables;
-use book::{Book, MOST_LINES};
+use book::{Book, MOST_LINES, Side};
 use chains::{Fault, check_balance};
 
 // Writes the rows of the dividing into the tables, and answers how many there are: one for each line of a book at most. The loop counts rows and
@@ -22,7 +22,14 @@ pub fn fill<R: Rule>(book: &Book, rule: &R, rows: &mut [u16], tonnes: &mut [u32]
     requires balanced { Balanced (lines book.now) }
     ensures { Filled (R.choice rule.now) (lines book.now) rows.old tonnes.old result rows.new tonnes.new }
 {
-    let mut division = Division::new(book, rule);
+    let mut division = Division {
+        book,
+        rule,
+        ins: book.totals(Side::In),
+        outs: book.totals(Side::Out),
+        left: [0; MOST_LINES],
+    };
+    division.begin();
     for number in 0..MOST_LINES {
         let Some(weight) = division.put_numbered(number, rows) else {
             return number;

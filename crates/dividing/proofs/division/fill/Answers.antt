@@ -1,16 +1,20 @@
 use Rattle.std.proofs.Common.{◌≡◌, sym, subst, rules, arith}
 use Rattle.book.specs.Lines.{lines}
 use Rattle.dividing.specs.Filling.{Filled}
+use Rattle.dividing.proofs.Amounts.{fair_zeros}
 use Rattle.dividing.proofs.Tabled.{Filling, filling_none, filling_full, filling_more, filling_all}
 use Rattle.dividing.proofs.division.fill.Goals as goal
 
+pub invariant_of-division-clause-fair : goal.invariant_of-division-clause-fair
+invariant_of-division-clause-fair g c = fair_zeros (lines c.args.book.now)
+
 pub loop-number-init : goal.loop-number-init
 loop-number-init g c =
-    let made = c.new-division.ensures in
+    let begun = c.begin.ensures in
     record {
-      book = made.book;
-      rule = made.rule;
-      filling = filling_none (g.R.Rule.choice c.args.rule.now) (lines c.args.book.now) c.requires.sound c.args.rows.now c.args.tonnes.now c.new-division.result.left made.left;
+      book = begun.book;
+      rule = begun.rule;
+      filling = filling_none (g.R.Rule.choice c.args.rule.now) (lines c.args.book.now) c.requires.sound c.args.rows.now c.args.tonnes.now c.begin.new.self.left begun.left;
     }
 
 pub loop-number-preserved : goal.loop-number-preserved
