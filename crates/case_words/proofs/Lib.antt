@@ -1,3 +1,4 @@
 pub mod Reading
 pub mod CallSteps
 pub mod Repeats
+pub mod Shown

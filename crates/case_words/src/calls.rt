@@ -63,9 +63,11 @@ impl Change {
         ensures answer { told result ≡ outcome (tally (lines book.old) (replicate (self.now.times - 1) self.now.call)) self.now.call }
         ensures lines { lines book.new ≡ after (tally (lines book.old) (replicate (self.now.times - 1) self.now.call)) self.now.call }
     {
+        // copied out, so that the compiler knows that making the call leaves it as it is
+        let call = self.call;
         for _ in 1..self.times {
-            let _ = book.make(self.call);
+            let _ = book.make(call);
         }
-        book.make(self.call)
+        book.make(call)
     }
 }

@@ -1,5 +1,5 @@
-//! What the programs of cases share, and some of it the program of a dispute: the words of a line, the calls that they name, replies, and tables lent. How these
-//! are shown has no contract: what the programs print is compared with what is stored.
+//! What the programs of cases share, and some of it the program of a dispute: the words of a line, the calls that they name, replies, and tables lent. What `{}`
+//! writes of these stands in `specs/Shown.antt`; that the programs print it is compared with what is stored.
 #![tactic(auto)]
 
 mod calls;

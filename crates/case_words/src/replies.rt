@@ -1,5 +1,8 @@
 // Replies: what a book answers to changes and questions, in words.
-ghost use Rattle.std.specs.Prelude.{◌≡◌, ◌≢◌, slice_index, None, Ok, Err, IsOkAnd, IsErrAnd, IsSomeAnd, MatchResult};
+ghost use Rattle.std.specs.Prelude.{◌≡◌, ◌≢◌, slice_index, Some, None, Ok, Err, IsOkAnd, IsErrAnd, IsSomeAnd, MatchResult};
+ghost use Rattle.std.specs.Fmt.{WritesOnOk};
+ghost use Rattle.book.specs.Faults.{carries};
+ghost use Rattle.case_words.specs.Shown.{numbers_text, totals_text, reply_text, refusal_text, told_text, replied_text};
 ghost use Rattle.case_words.specs.declared.replies.Reply.TheVariants.{Answer, Certainty};
 
 use book::{ACCOUNTS, Answer, Fault as BookFault, Line};
@@ -35,6 +38,8 @@ impl From<Certainty> for Reply {
 }
 
 impl fmt::Display for Reply {
+    ghost output = { λ reply. Some (reply_text reply) };
+
     fn fmt<W: fmt::Write>(&self, f: &mut fmt::Formatter<W>) -> fmt::Result {
         match *self {
             Reply::Answer(Answer::Posted(number)) => write!(f, "line {number}"),
@@ -56,9 +61,13 @@ impl fmt::Display for Reply {
 }
 
 // Each account with a total above 0; the rest have none.
-fn write_totals<W: fmt::Write>(f: &mut fmt::Formatter<W>, totals: &[u32; ACCOUNTS]) -> fmt::Result {
-    for (account, total) in totals.iter().enumerate().filter(|(_, total)| **total > 0) {
-        write!(f, "{account}:{total} ")?;
+fn write_totals<W: fmt::Write>(f: &mut fmt::Formatter<W>, totals: &[u32; ACCOUNTS]) -> fmt::Result
+    ensures { WritesOnOk W.write_str_gives f.old result (totals_text totals.now) f.new }
+{
+    for (account, total) in totals.iter().enumerate() {
+        if *total > 0 {
+            write!(f, "{account}:{total} ")?;
+        }
     }
     write!(f, "rest 0")
 }
@@ -68,6 +77,8 @@ fn write_totals<W: fmt::Write>(f: &mut fmt::Formatter<W>, totals: &[u32; ACCOUNT
 pub struct Refusal(pub Fault);
 
 impl fmt::Display for Refusal {
+    ghost output = { λ refusal. Some (refusal_text refusal.0) };
+
     fn fmt<W: fmt::Write>(&self, f: &mut fmt::Formatter<W>) -> fmt::Result {
         let number = self.0.number();
         write!(f, "refused {number}")?;
@@ -85,7 +96,9 @@ impl fmt::Display for Refusal {
 }
 
 // Each value that a fault of the book carries, after a space.
-fn write_carried<W: fmt::Write>(f: &mut fmt::Formatter<W>, fault: BookFault) -> fmt::Result {
+fn write_carried<W: fmt::Write>(f: &mut fmt::Formatter<W>, fault: BookFault) -> fmt::Result
+    ensures { WritesOnOk W.write_str_gives f.old result (numbers_text (carries fault)) f.new }
+{
     match fault {
         BookFault::Full | BookFault::NotUpward => Ok(()),
         BookFault::AccountTooHigh(account) => write!(f, " {account}"),
@@ -112,6 +125,8 @@ impl<T: Into<Reply>, E: Into<Fault>> From<Result<T, E>> for Told {
 }
 
 impl fmt::Display for Told {
+    ghost output = { λ told. Some (told_text told.0) };
+
     fn fmt<W: fmt::Write>(&self, f: &mut fmt::Formatter<W>) -> fmt::Result {
         match self.0 {
             Ok(reply) => write!(f, "{reply}"),
@@ -149,6 +164,8 @@ where
 }
 
 impl<R: fmt::Display> fmt::Display for Replied<'_, R> {
+    ghost output = { λ replied. replied_text R.output replied.line.now replied.reply };
+
     fn fmt<W: fmt::Write>(&self, f: &mut fmt::Formatter<W>) -> fmt::Result {
         let line = self.line;
         match &self.reply {

@@ -1,5 +1,6 @@
 // Tables lent to a call: filled before it, and shown after it.
-ghost use Rattle.std.specs.Prelude.{◌≡◌, ◌↔◌, ◌<◌, length, IfOk, IsTrue, replicate, slice_index, take, drop};
+ghost use Rattle.std.specs.Prelude.{◌≡◌, ◌↔◌, ◌<◌, length, Some, IfOk, IsTrue, replicate, slice_index, take, drop};
+ghost use Rattle.case_words.specs.Shown.{numbers_text, rows_text, kept_text};
 ghost use Rattle.case_words.specs.Tables.{filler, in_row, EntriesKept, TonnesKept};
 
 use dividing::ROW_STRIDE;
@@ -48,7 +49,7 @@ impl Tables {
         self.rows
             .iter()
             .enumerate()
-            .all(|(at, entry)| self.is_used(count, at) || *entry == FILLER)
+            .all(|(at, entry)| *entry == FILLER || self.is_used(count, at))
     }
 
     fn tonnes_are_kept(&self, count: usize) -> bool
@@ -78,6 +79,8 @@ impl Tables {
 pub struct Lines<'a>(pub &'a [u16]);
 
 impl fmt::Display for Lines<'_> {
+    ghost output = { λ shown. Some (numbers_text shown.0.now) };
+
     fn fmt<W: fmt::Write>(&self, f: &mut fmt::Formatter<W>) -> fmt::Result {
         for number in self.0 {
             write!(f, " {number}")?;
@@ -91,6 +94,8 @@ impl fmt::Display for Lines<'_> {
 pub struct Rows<'a>(pub &'a Tables, pub usize);
 
 impl fmt::Display for Rows<'_> {
+    ghost output = { λ shown. Some (rows_text shown.0.now.rows.items shown.0.now.tonnes.items shown.1) };
+
     fn fmt<W: fmt::Write>(&self, f: &mut fmt::Formatter<W>) -> fmt::Result {
         let Rows(tables, count) = *self;
         let rows = tables.rows.chunks(ROW_STRIDE);
@@ -107,6 +112,8 @@ impl fmt::Display for Rows<'_> {
 pub struct Kept(pub bool);
 
 impl fmt::Display for Kept {
+    ghost output = { λ shown. Some (kept_text shown.0) };
+
     fn fmt<W: fmt::Write>(&self, f: &mut fmt::Formatter<W>) -> fmt::Result {
         f.write_str(if self.0 { "kept" } else { "changed" })
     }
