@@ -20,12 +20,19 @@ fn main(rt: HostRuntime) -> anyhow::Result<()> {
 }
 
 // All cases of a file go to the same book. This loop stands in each program of cases: in the library it would be told of a closure that changes the book, with a longer contract.
+// A case is written before it is put to the book, so that it is seen which case could not be read.
 fn print_cases(rt: &HostRuntime, path: &str) -> anyhow::Result<()> {
     let text = fs::read_to_string(rt, path)?;
     let mut book = Book::new();
     for line in text.as_str().lines() {
-        let replied = reply_to(line, |text| answer_case(rt.alloc(), &mut book, text))?;
-        rt.println(replied)?;
+        let replied = reply_to(line, |text| {
+            print!(rt; "{text} -> ")?;
+            answer_case(rt.alloc(), &mut book, text)
+        })?;
+        match replied.reply {
+            Some(answered) => rt.println(answered)?,
+            None => rt.println(line)?,
+        }
     }
     Ok(())
 }
