@@ -66,6 +66,10 @@ amounts_all t left few so =
     (λ past. so.blank i past ∙ sym (get_or-amounts t i ∙ ap amount_of (get_or_past t i Struck past)))
     (cases_lt i (length t)))
 
+-- a book with no line has no amounts
+pub no_amounts : (t : Tally) → length t ≡ 0 → (n : ℕ) → get_or (amounts t) n 0 ≡ 0
+no_amounts t none n = get_or-amounts t n ∙ ap amount_of (get_or_past t n Struck (omega arith))
+
 -- a line that is not among those that are taken off
 module _ (ws : List ℕ) (k n v : ℕ) where
   elsewhere : (m : ℕ) (c : List ℕ) → holds (n ∷ []) (m ∷ c) ≡ false → (n ≢ m) × (holds (n ∷ []) c ≡ false)

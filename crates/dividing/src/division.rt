@@ -22,11 +22,16 @@ pub fn fill<R: Rule>(book: &Book, rule: &R, rows: &mut [u16], tonnes: &mut [u32]
     requires balanced { Balanced (lines book.now) }
     ensures { Filled (R.choice rule.now) (lines book.now) rows.old tonnes.old result rows.new tonnes.new }
 {
+    if book.len() == 0 {
+        return 0;
+    }
+    let ins = book.totals(Side::In);
+    let outs = book.totals(Side::Out);
     let mut division = Division {
         book,
         rule,
-        ins: book.totals(Side::In),
-        outs: book.totals(Side::Out),
+        ins: &ins,
+        outs: &outs,
         left: [0; MOST_LINES],
     };
     division.begin();

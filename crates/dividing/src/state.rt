@@ -20,12 +20,12 @@ mod sources;
 pub struct Division<'a, R> {
     pub book: &'a Book,
     pub rule: &'a R,
-    pub ins: [u32; ACCOUNTS],
-    pub outs: [u32; ACCOUNTS],
+    pub ins: &'a [u32; ACCOUNTS],
+    pub outs: &'a [u32; ACCOUNTS],
     pub left: [u32; MOST_LINES],
     ghost sound: { WellFormed (lines book.now) } by { well_formed_prop (lines book.now) },
-    ghost entering: { (a : ℕ) → a < accounts → slice_index ins a ≡ in_total (lines book.now) a },
-    ghost leaving: { (a : ℕ) → a < accounts → slice_index outs a ≡ out_total (lines book.now) a },
+    ghost entering: { (a : ℕ) → a < accounts → slice_index ins.now a ≡ in_total (lines book.now) a },
+    ghost leaving: { (a : ℕ) → a < accounts → slice_index outs.now a ≡ out_total (lines book.now) a },
     ghost fair: { Fair (lines book.now) left },
 }
 

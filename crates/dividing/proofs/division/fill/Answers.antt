@@ -1,12 +1,20 @@
-use Rattle.std.proofs.Common.{◌≡◌, sym, subst, rules, arith}
+use Rattle.std.proofs.Common.{◌≡◌, ℕ, get_or, refl, sym, subst, rules, arith}
 use Rattle.book.specs.Lines.{lines}
+use Rattle.flow.specs.Dividing.{amounts}
 use Rattle.dividing.specs.Filling.{Filled}
-use Rattle.dividing.proofs.Amounts.{fair_zeros}
+use Rattle.dividing.proofs.Amounts.{fair_zeros, no_amounts}
 use Rattle.dividing.proofs.Tabled.{Filling, filling_none, filling_full, filling_more, filling_all}
 use Rattle.dividing.proofs.division.fill.Goals as goal
 
 pub invariant_of-division-clause-fair : goal.invariant_of-division-clause-fair
 invariant_of-division-clause-fair g c = fair_zeros (lines c.args.book.now)
+
+pub returns-then-len-eq0 : goal.returns-then-len-eq0
+returns-then-len-eq0 g c =
+    let t = lines c.args.book.now in
+    let choice = g.R.Rule.choice c.args.rule.now in
+    let none : (n : ℕ) → get_or (amounts t) n 0 ≡ 0 = no_amounts t (omega arith) in
+    filling_all choice t c.requires.sound c.args.rows.now c.args.tonnes.now (amounts t) 0 c.args.rows.now c.args.tonnes.now (filling_none choice t c.requires.sound c.args.rows.now c.args.tonnes.now (amounts t) refl) none
 
 pub loop-number-init : goal.loop-number-init
 loop-number-init g c =
